@@ -1,6 +1,7 @@
 -- The stripe of a script, whose legs may lose power while they are out.
 use Rattle.std.specs.Prelude.{◌≡◌, ℕ, Bool, true, false, List, replicate, slice_get, slice_set}
-use Rattle.std.specs.Prelude.{slice_index_or, Option, None, Some, Result, Ok, Err, if◌then◌else◌}
+use Rattle.std.specs.Prelude.{Option, None, Some, Result, Ok, Err, if◌then◌else◌}
+use Rattle.nm_geometry.specs.LegSets.{has}
 use Rattle.nm_replay.specs.Array.{Array}
 use Rattle.nm_rules.specs.declared.refusal.Refusal.{Refusal}
 use Rattle.nm_rules.specs.declared.refusal.Refusal.TheVariants.{NotOut}
@@ -23,20 +24,16 @@ use Rattle.nm_script_lib.specs.MemStripe.{IsAsked, IsOpened, everywhere}
 use Rattle.nm_script_lib.specs.Power.{IsLeft}
 use Rattle.nm_script_lib.specs.PowerLeg.{changed_of, of_power, power_legs}
 
--- The leg lost power since it went out.
-abbrev pub is_lost : ℕ → List Bool → Bool
-is_lost leg lost = slice_index_or lost leg false
-
 -- What the leg has now: where it lost power, what was durable.
 abbrev pub shown : ScriptStripe → ℕ → Array
 shown s leg =
-    if is_lost leg s.lost then durable_of of_power s.stripe.legs leg
+    if has leg s.lost then durable_of of_power s.stripe.legs leg
     else contents_of of_power s.stripe.legs leg
 
 -- How many blocks of the leg a loss of its power changes now: after one, no more.
 abbrev pub forgotten : ScriptStripe → ℕ → ℕ
 forgotten s leg =
-    if is_lost leg s.lost then 0 else changed_of (slice_get s.stripe.legs leg)
+    if has leg s.lost then 0 else changed_of (slice_get s.stripe.legs leg)
 
 -- A loss of the leg's power: it has to be out, and then tells how many blocks were changed.
 abbrev pub LosesPower : ℕ → Result ℕ Refusal → (old new : ScriptStripe) → Type 0
@@ -48,8 +45,8 @@ LosesPower leg (Err refusal) old new =
 
 -- The leg that a step asks back, if it lost power.
 abbrev pub asked_back : StripeStep → List Bool → Option ℕ
-asked_back (Attach leg) lost = if is_lost leg lost then Some leg else None
-asked_back (Return leg) lost = if is_lost leg lost then Some leg else None
+asked_back (Attach leg) lost = if has leg lost then Some leg else None
+asked_back (Return leg) lost = if has leg lost then Some leg else None
 asked_back step lost = None
 
 -- A leg that lost power was asked back, with this answer: it returns as this part, or stays out.

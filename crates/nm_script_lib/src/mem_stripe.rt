@@ -26,6 +26,7 @@ use crate::script_stripe::{ScriptStripe, asked_back, everywhere, forgive};
 use crate::step::StripeStep;
 use bytes::Bytes;
 use nm_fanout::Data;
+use nm_geometry::LegSet;
 use nm_leg::{FuseLeg, LegFault, LegPart};
 use nm_replay::BLOCK_BYTES;
 use nm_stripe::{Answer, At, Room, Step, Stripe};
@@ -179,7 +180,7 @@ pub fn open_script(alloc: Global, script: &Script) -> Result<ScriptStripe, RunEr
     let stripe = open_stripe(alloc, script)?;
     Ok(ScriptStripe {
         stripe,
-        lost: [false; 8],
+        lost: LegSet::none(),
     })
 }
 
@@ -316,7 +317,7 @@ pub fn step(
     ensures shape { HasShape mirror.now running.new.stripe }
     ensures cause { IfErr result (λ e. e ≡ Memory) }
 {
-    match asked_back(mirror, &running.lost, step) {
+    match asked_back(&running.lost, step) {
         Some(leg) => running.come_back(alloc, mirror, leg),
         None => ask(alloc, mirror, running, step),
     }

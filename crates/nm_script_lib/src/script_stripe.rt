@@ -1,9 +1,10 @@
 //! The stripe of a script, whose legs may lose power while they are out.
 ghost use Rattle.std.specs.Prelude.{◌≡◌, ◌<◌, ◌≤◌, slice_get, None, Some, if◌then◌else◌};
 ghost use Rattle.std.specs.Prelude.{IfOk, IfErr};
+ghost use Rattle.nm_geometry.specs.LegSets.{has};
 ghost use Rattle.nm_script_lib.specs.MemStripe.{HasShape, IsInside, everywhere};
-ghost use Rattle.nm_script_lib.specs.ScriptStripe.{ComesBack, LosesPower, asked_back, is_lost};
-ghost use Rattle.nm_script_lib.specs.ScriptStripe.{forgotten, lost_after, shown};
+ghost use Rattle.nm_script_lib.specs.ScriptStripe.{ComesBack, LosesPower, asked_back, forgotten};
+ghost use Rattle.nm_script_lib.specs.ScriptStripe.{lost_after, shown};
 ghost use Rattle.nm_script_lib.specs.declared.step.Step.TheVariants.{Ask};
 ghost use Rattle.nm_script_lib.specs.declared.run_error.RunError.TheVariants.{Memory};
 
@@ -11,6 +12,7 @@ use crate::mirror_line::MirrorLine;
 use crate::power_leg::PowerLeg;
 use crate::run_error::RunError;
 use crate::step::StripeStep;
+use nm_geometry::LegSet;
 use nm_replay::Block;
 use nm_stripe::{Answer, Handed, LegState, Refusal, Spans, Stripe};
 use std::alloc::Global;
@@ -25,8 +27,8 @@ const SPAN: u64 = 65_536;
 #[derive(Drop)]
 pub struct ScriptStripe {
     pub stripe: Stripe<PowerLeg>,
-    /// For each leg, whether it did.
-    pub lost: [bool; 8],
+    /// Those that did.
+    pub lost: LegSet,
 }
 
 /// One marked span, which has every region.
@@ -43,17 +45,18 @@ pub fn everywhere(alloc: Global) -> Result<Spans, RunError>
 }
 
 /// The leg, if it lost power.
-fn if_lost(lost: &[bool; 8], leg: u8) -> Option<u8>
-    requires { leg < 8 }
-    ensures { result ≡ (if is_lost leg lost.now then Some leg else None) }
+fn if_lost(lost: &LegSet, leg: u8) -> Option<u8>
+    ensures { result ≡ (if has leg lost.now then Some leg else None) }
 {
-    if lost[leg as usize] { Some(leg) } else { None }
+    if lost.has(leg as usize) {
+        Some(leg)
+    } else {
+        None
+    }
 }
 
 /// The leg that a step asks back, if it lost power.
-pub fn asked_back(mirror: &MirrorLine, lost: &[bool; 8], step: StripeStep) -> Option<u8>
-    requires few { mirror.now.legs ≤ 8 }
-    requires inside { IsInside mirror.now (Ask step) }
+pub fn asked_back(lost: &LegSet, step: StripeStep) -> Option<u8>
     ensures { result ≡ asked_back step lost.now }
 {
     match step {
@@ -64,19 +67,14 @@ pub fn asked_back(mirror: &MirrorLine, lost: &[bool; 8], step: StripeStep) -> Op
 }
 
 /// A leg that was replaced by a new one has lost nothing.
-pub fn forgive(
-    lost: &mut [bool; 8],
-    mirror: &MirrorLine,
-    step: StripeStep,
-    answer: &Answer<PowerLeg>,
-)
+pub fn forgive(lost: &mut LegSet, mirror: &MirrorLine, step: StripeStep, answer: &Answer<PowerLeg>)
     requires few { mirror.now.legs ≤ 8 }
     requires inside { IsInside mirror.now (Ask step) }
     ensures { lost.new ≡ lost_after step answer.now lost.old }
 {
     if let StripeStep::Replace { leg, .. } = step {
         if let Answer::Joining(_) = answer {
-            lost[leg as usize] = false;
+            lost.set(leg as usize, false);
         }
     }
 }
@@ -90,7 +88,7 @@ impl ScriptStripe {
         ensures { slice_get (shown self.now leg) block ≡ Some result.now }
     {
         let part = self.stripe.part(leg);
-        if self.lost[leg as usize] {
+        if self.lost.has(leg as usize) {
             part.durable_block(block)
         } else {
             part.block(block)
@@ -103,7 +101,7 @@ impl ScriptStripe {
         requires leg { leg < mirror.now.legs }
         ensures { result ≡ forgotten self.now leg }
     {
-        if self.lost[leg as usize] {
+        if self.lost.has(leg as usize) {
             0
         } else {
             self.stripe.part(leg).changed()
@@ -122,7 +120,7 @@ impl ScriptStripe {
         match self.stripe.state(leg) {
             LegState::Out => {
                 let count = self.forgotten(mirror, leg);
-                self.lost[leg as usize] = true;
+                self.lost.set(leg as usize, true);
                 Ok(count)
             }
             LegState::InSync | LegState::Joining => Err(Refusal::NotOut),
@@ -145,7 +143,7 @@ impl ScriptStripe {
         let part = self.stripe.part(leg).left(alloc)?;
         match self.stripe.return_lost(leg, part, &[true], SPAN) {
             Ok(left) => {
-                self.lost[leg as usize] = false;
+                self.lost.set(leg as usize, false);
                 Ok(Answer::Joining(left))
             }
             Err((refusal, _part)) => Ok(Answer::Refused(refusal, Handed::Nothing)),
