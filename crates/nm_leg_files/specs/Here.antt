@@ -1,7 +1,8 @@
 -- Which legs are here: their files were opened as the server started.
 use Rattle.std.specs.Prelude.{◌≡◌, ◌<◌, ℕ, Bool, true, false, List, Option, None, Some}
-use Rattle.std.specs.Prelude.{is_some, not, slice_get, slice_index_or}
+use Rattle.std.specs.Prelude.{is_some, not, slice_get}
 use Rattle.std.specs.List.{list_all, list_any}
+use Rattle.nm_geometry.specs.LegSets.{has}
 use Rattle.nm_leg_files.specs.declared.leg_file.LegFile.{LegFile}
 use Rattle.nm_leg_files.specs.declared.leg_files.LegFiles.{LegFiles}
 
@@ -29,9 +30,9 @@ is_here_at leg files = is_here_in (slice_get files.files.items leg)
 -- of the first legs these are here, and no others
 abbrev pub AreHere : ℕ → LegFiles → List Bool → Type 0
 AreHere count files here =
-    (leg : ℕ) → leg < count → slice_index_or here leg false ≡ is_here_at leg files
+    (leg : ℕ) → leg < count → has leg here ≡ is_here_at leg files
 
 -- of the first legs these are among those that are here
 abbrev pub AreOfHere : ℕ → LegFiles → List Bool → Type 0
 AreOfHere count files legs =
-    (leg : ℕ) → leg < count → slice_index_or legs leg false ≡ true → is_here_at leg files ≡ true
+    (leg : ℕ) → leg < count → has leg legs ≡ true → is_here_at leg files ≡ true

@@ -1,6 +1,7 @@
 -- The times of legs' last changes that a save records.
 use Rattle.std.specs.Prelude.{◌≡◌, ◌<◌, ℕ, Bool, false, List, nat_eq, if◌then◌else◌, ◌&&◌}
-use Rattle.std.specs.Prelude.{slice_index, slice_index_or}
+use Rattle.std.specs.Prelude.{slice_index}
+use Rattle.nm_geometry.specs.LegSets.{has}
 use Rattle.nm_superblock.specs.declared.leg_identities.LegIdentities.{LegIdentities}
 use Rattle.nm_superblock.specs.Identities.{IsKnown}
 
@@ -20,5 +21,5 @@ AreKnownTimes count times identities known =
 abbrev pub AreSavedTimes : ℕ → (ended last : List ℕ) → (out : List Bool) → List ℕ → Type 0
 AreSavedTimes count ended last out saved =
     (leg : ℕ) → leg < count → slice_index saved leg
-    ≡ (if nat_eq (slice_index ended leg) 0 && slice_index_or out leg false
+    ≡ (if nat_eq (slice_index ended leg) 0 && has leg out
     then slice_index last leg else slice_index ended leg)

@@ -1,6 +1,7 @@
 -- What follows a try to save the superblocks, and when a mirror was ended in good order.
-use Rattle.std.specs.Prelude.{◌≡◌, ◌⊎◌, ◌<◌, ℕ, Bool, true, false, List, length, slice_index_or}
+use Rattle.std.specs.Prelude.{◌≡◌, ◌⊎◌, ◌<◌, ℕ, Bool, IsTrue, IsFalse, List}
 use Rattle.std.specs.Int.{bit_at}
+use Rattle.nm_geometry.specs.LegSets.{has}
 use Rattle.nm_mirror.specs.declared.counts.FailCounts.{FailCounts}
 use Rattle.nm_leg_files.specs.declared.saving.AfterTry.{AfterTry}
 use Rattle.nm_leg_files.specs.declared.saving.AfterTry.TheVariants.{End, GiveUp, TakeOut}
@@ -11,9 +12,8 @@ use Rattle.nm_superblock.specs.Spans.{IsUnmarked, in_sync_of}
 -- some of these files failed, so the save does not end: a leg goes out whose file did
 abbrev pub GoesOn : (failed : List Bool) → AfterTry → Type 0
 GoesOn failed End = ⊥
-GoesOn failed (TakeOut leg) = (leg < length failed) × (slice_index_or failed leg false ≡ true)
-GoesOn failed GiveUp =
-    (leg : ℕ) → leg < length failed → slice_index_or failed leg false ≡ false
+GoesOn failed (TakeOut leg) = (leg < 8) × IsTrue (has leg failed)
+GoesOn failed GiveUp = (leg : ℕ) → leg < 8 → IsFalse (has leg failed)
 
 -- the leg was to go out and is in sync somewhere still: the last one there, or all has stopped
 abbrev pub IsLastSomewhere : FailCounts → Type 0

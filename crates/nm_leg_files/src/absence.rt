@@ -8,7 +8,7 @@ use crate::leg_file::LegFile;
 use crate::leg_files::LegFiles;
 use crate::limited_file::LimitedFile;
 use nm_file_leg::SharedFile;
-use nm_geometry::MOST_STRIPES;
+use nm_geometry::{LegSet, MOST_STRIPES};
 use std::alloc::{AllocError, Global};
 use std::sync::Arc;
 use std::{fmt, io};
@@ -71,14 +71,12 @@ impl LegFiles {
     pub fn keep_own(
         &mut self,
         alloc: Global,
-        own: &[bool; 8],
-        changed: &[bool; 8],
+        own: &LegSet,
+        changed: &LegSet,
     ) -> Result<(), AllocError> {
         for (leg, file) in self.files.iter_mut().enumerate() {
-            let is_own = own.get(leg).copied().unwrap_or(false);
-            let was_changed = changed.get(leg).copied().unwrap_or(false);
-            if !is_own && file.unopened.is_none() {
-                let why = absence_by(was_changed);
+            if !own.has(leg) && file.unopened.is_none() {
+                let why = absence_by(changed.has(leg));
                 *file = file.laid_aside(alloc, why)?;
             }
         }
@@ -86,10 +84,9 @@ impl LegFiles {
     }
 
     /// Lets go of these legs' files: the mirror starts without them.
-    pub fn lay_aside(&mut self, alloc: Global, legs: &[bool; 8]) -> Result<(), AllocError> {
+    pub fn lay_aside(&mut self, alloc: Global, legs: &LegSet) -> Result<(), AllocError> {
         for (leg, file) in self.files.iter_mut().enumerate() {
-            let is_aside = legs.get(leg).copied().unwrap_or(false);
-            if is_aside && file.unopened.is_none() {
+            if legs.has(leg) && file.unopened.is_none() {
                 *file = file.laid_aside(alloc, Absence::Unknown)?;
             }
         }

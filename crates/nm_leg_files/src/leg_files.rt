@@ -15,7 +15,7 @@ use crate::leg_opening::{BLOCK_BYTES, LegLength, LegRules, find_leg, first_of};
 use crate::leg_place::LegPlace;
 use crate::timed_calls::TimedCalls;
 use nm_file_leg::{FileLeg, FileUser};
-use nm_geometry::Shape;
+use nm_geometry::{LegSet, Shape};
 use nm_lanes::NoGate;
 use nm_mirror::Mirror;
 use nm_reports::{LogLines, StartFault, Unopened};
@@ -192,12 +192,12 @@ impl LegFiles {
     }
 
     /// Which legs are here.
-    pub fn here(&self) -> [bool; 8]
+    pub fn here(&self) -> LegSet
         ensures { AreHere 8 self.now result }
     {
-        let mut here = [false; 8];
+        let mut here = LegSet::none();
         'legs: for leg in 0..8 {
-            here[leg] = self.is_here(leg);
+            here.set(leg, self.is_here(leg));
         }
         here
     }
@@ -262,12 +262,12 @@ impl LegFiles {
     /// Makes each leg's file durable as it is, and drops what the system's cache has of it, so that
     /// what is read from now on is what a loss of power would leave. Of which legs that succeeded:
     /// another one is missing, or may have lost what was written to it.
-    pub fn settle(&self) -> [bool; 8]
+    pub fn settle(&self) -> LegSet
         ensures { AreOfHere 8 self.now result }
     {
-        let mut settled = [false; 8];
+        let mut settled = LegSet::none();
         'legs: for leg in 0..8 {
-            settled[leg] = self.settle_leg(leg);
+            settled.set(leg, self.settle_leg(leg));
         }
         settled
     }

@@ -3,6 +3,7 @@ ghost use Rattle.std.specs.Prelude.{◌≡◌, ◌≤◌, ◌↔◌, IsTrue, IfE
 ghost use Rattle.nm_leg_files.specs.declared.saving.AfterTry.TheVariants.{End};
 ghost use Rattle.nm_leg_files.specs.Saving.{GoesOn, HasAll, IsClean, IsLastSomewhere};
 
+use nm_geometry::LegSet;
 use nm_mirror::FailCounts;
 use nm_saves::{FailedFiles, Saved};
 use nm_superblock::{LegSets, SpanMap};
@@ -30,11 +31,11 @@ pub fn after_try(tried: &Result<Saved, FailedFiles>) -> AfterTry
 }
 
 // What follows where these legs' files failed: the first of them goes out.
-fn after_failure(failed: &[bool; 8]) -> AfterTry
+fn after_failure(failed: &LegSet) -> AfterTry
     ensures { GoesOn failed.now result }
 {
-    'legs: for leg in 0..failed.len() {
-        if failed[leg] {
+    'legs: for leg in 0..8usize {
+        if failed.has(leg) {
             return AfterTry::TakeOut(leg as u8);
         }
     }

@@ -5,7 +5,7 @@ ghost use Rattle.std.specs.Prelude.{◌≡◌, ◌≤◌};
 use crate::change_times::{known_times, saved_times};
 use crate::saving::{AfterTry, after_try, is_clean, is_last_somewhere};
 use crate::window::SlotsAt;
-use nm_geometry::{MOST_LEGS, MOST_STRIPES};
+use nm_geometry::{LegSet, MOST_LEGS, MOST_STRIPES};
 use nm_lanes::Gate;
 use nm_leg::LegPart;
 use nm_mirror::{Doubts, MOST_SPANS, Mirror, SaveOrder};
@@ -187,9 +187,9 @@ impl<S: SlotFile> SuperblockWriter<S> {
     }
 
     // Whether the file of a leg has failed that is not out.
-    fn has_failed_beside(&self, out: &[bool; 8]) -> bool {
+    fn has_failed_beside(&self, out: &LegSet) -> bool {
         for leg in 0..8usize {
-            if !out[leg] && self.files.error(leg).is_some() {
+            if !out.has(leg) && self.files.error(leg).is_some() {
                 return true;
             }
         }
@@ -198,7 +198,7 @@ impl<S: SlotFile> SuperblockWriter<S> {
 
     // The times of legs' last changes that a save records without these legs: at the end those that
     // were read then.
-    fn recorded_times(&self, ended: Option<[u64; 8]>, out: &[bool; 8]) -> [u64; 8] {
+    fn recorded_times(&self, ended: Option<[u64; 8]>, out: &LegSet) -> [u64; 8] {
         let last = self.files.image();
         let known = known_times(&ended.unwrap_or([0; 8]), &last.identities);
         saved_times(&known, &last.changed, out)
