@@ -2,16 +2,17 @@
 use Rattle.std.specs.Prelude.{◌≡◌, ◌<◌, ◌↔◌, ℕ, Bool, true, false, not, IsTrue}
 use Rattle.std.specs.Prelude.{List, length, map, slice_index_or, Option, None, Some}
 use Rattle.nm_gate.specs.Durable.{Durable}
+use Rattle.nm_geometry.specs.LegSets.{has}
 use Rattle.nm_plans.specs.Plan.{AreDurablesOf}
 use Rattle.nm_rules.specs.State.{StripeState}
 use Rattle.nm_saves.specs.FileState.{FileState}
-use Rattle.nm_saves.specs.Files.{AreFound, told}
+use Rattle.nm_saves.specs.Files.{AreFound}
 use Rattle.nm_saves.specs.SavingAll.{FilesState, IsDone, request_of}
 use Rattle.nm_superblock.specs.declared.superblock.Superblock.{Superblock}
 
 -- of the first legs those are out whose files are not here
 abbrev pub AreAbsent : ℕ → (here out : List Bool) → Type 0
-AreAbsent count here out = (leg : ℕ) → leg < count → told leg out ≡ not (told leg here)
+AreAbsent count here out = (leg : ℕ) → leg < count → has leg out ≡ not (has leg here)
 
 -- What the image says was saved, as by a server that has not ended: with legs out whose files are
 -- not here.

@@ -2,8 +2,8 @@
 -- place may have one of each leg.
 use Rattle.std.specs.Prelude.{◌≡◌, ◌⊎◌, ◌<◌, ◌≤◌, ◌||◌, ℕ, Bool, List, Option, None, Some}
 use Rattle.std.specs.Prelude.{if◌then◌else◌, nat_lt, slice_index}
-use Rattle.nm_assemble.specs.Own.{said}
 use Rattle.nm_assemble.specs.Start.{IsEmpty, IsNewest, beside}
+use Rattle.nm_geometry.specs.LegSets.{has}
 use Rattle.nm_starts.specs.declared.two_places.PlaceFound.{PlaceFound}
 use Rattle.nm_superblock.specs.Slots.{newer_of}
 use Rattle.nm_superblock.specs.declared.superblock.Superblock.{Superblock}
@@ -11,7 +11,7 @@ use Rattle.nm_superblock.specs.declared.superblock.Superblock.{Superblock}
 -- the later superblock of a leg: none where one of its two files is damaged, which may have held
 -- the later one
 abbrev pub later_of : ℕ → (new old : PlaceFound) → Option Superblock
-later_of leg new old = if said leg new.damaged || said leg old.damaged then None
+later_of leg new old = if has leg new.damaged || has leg old.damaged then None
     else newer_of (beside leg new.found) (beside leg old.found)
 
 -- of the first legs these are the later ones

@@ -9,7 +9,7 @@ use crate::superblock_choice::FoundLegs;
 use nm_assemble::{LegsHere, are_all_changed, changed_legs, newest_of};
 use nm_choice::Policy;
 use nm_commands::OpeningSettings;
-use nm_geometry::Shape;
+use nm_geometry::{LegSet, Shape};
 use nm_leg_files::{BytesRead, Leg, LegFiles, mirror_legs};
 use nm_mirror::{InitialSync, MirrorFault, open_stripes};
 use nm_reports::StartFault;
@@ -42,10 +42,10 @@ pub fn as_they_were(opening: &OpeningSettings<'_>, seen: &FoundLegs) -> Option<F
 }
 
 /// The legs whose files were changed since the mirror ended.
-pub fn changed_here(seen: &FoundLegs) -> [bool; 8] {
+pub fn changed_here(seen: &FoundLegs) -> LegSet {
     match newest_of(&seen.found) {
         Some(newest) => changed_legs(&newest, &seen.legs),
-        None => [false; 8],
+        None => LegSet::none(),
     }
 }
 

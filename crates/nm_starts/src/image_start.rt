@@ -5,7 +5,7 @@ ghost use Rattle.nm_mirror.specs.Stripes.{AreStripesOf};
 ghost use Rattle.nm_starts.specs.ByImage.{AreOpenedBy};
 
 use nm_choice::Policy;
-use nm_geometry::Shape;
+use nm_geometry::{LegSet, Shape};
 use nm_leg_files::{BytesRead, Leg, LegFiles, mirror_legs};
 use nm_mirror::{MOST_SPANS, open_marked_stripes};
 use nm_plans::{Unplanned, marks_in, stripe_starts};
@@ -22,7 +22,7 @@ pub fn open_by_image(
     shape: &Shape,
     read: &BytesRead,
     image: &Superblock,
-    here: &[bool; 8],
+    here: &LegSet,
 ) -> Result<Vec<Stripe<Leg>>, StartFault>
     ensures stripes { IfOk result (λ stripes. AreStripesOf shape.now stripes.items) }
     ensures opened { IfOk result (λ stripes. AreOpenedBy

@@ -6,7 +6,7 @@ ghost use Rattle.nm_starts.specs.Kept.{SavesOnce, SavesTimes};
 
 use crate::superblock_opening::{AllFiles, FoundFiles};
 use nm_gate::GatedStripe;
-use nm_geometry::Shape;
+use nm_geometry::{LegSet, Shape};
 use nm_leg::LegPart;
 use nm_leg_files::{LateSlots, LateSuperblock, Leg, SuperblockWriter};
 use nm_mirror::{gated, ungated};
@@ -27,7 +27,7 @@ pub struct KeptImage {
     /// The image that the start saves, and opens its stripes by.
     pub image: Superblock,
     /// Whose files are here.
-    pub here: [bool; 8],
+    pub here: LegSet,
     /// The newest superblock that was found.
     pub went_by: Option<Superblock>,
     /// Whether the legs are compared, since all of them were changed.
@@ -81,14 +81,10 @@ fn has_older_version(found: &[Option<Superblock>; 8]) -> bool
 }
 
 // The legs whose files are not here.
-fn absent_legs(here: &[bool; 8]) -> [bool; 8]
+fn absent_legs(here: &LegSet) -> LegSet
     ensures { AreAbsent 8 here.now result }
 {
-    let mut absent = [false; 8];
-    'legs: for leg in 0..8 {
-        absent[leg] = !here[leg];
-    }
-    absent
+    LegSet::of([true; 8]).without(here)
 }
 
 // Saves the image, into both slots where this is asked for: from then on no start finds another
@@ -96,7 +92,7 @@ fn absent_legs(here: &[bool; 8]) -> [bool; 8]
 fn save_image<F: SlotFile>(
     files: &mut SuperblockFiles<F>,
     image: &Superblock,
-    here: &[bool; 8],
+    here: &LegSet,
     is_twice: bool,
 ) -> Result<(), StartFault>
     ensures { OnOk result (SavesTimes is_twice (SavesOnce F.honest image.now here.now)
@@ -113,7 +109,7 @@ fn save_image<F: SlotFile>(
 fn save_once<F: SlotFile>(
     files: &mut SuperblockFiles<F>,
     image: &Superblock,
-    here: &[bool; 8],
+    here: &LegSet,
 ) -> Result<(), StartFault>
     ensures { OnOk result (SavesOnce F.honest image.now here.now files.old files.new) }
 {
@@ -126,8 +122,8 @@ fn save_once<F: SlotFile>(
 
 // Why it was not saved: the error of the first leg's file that has one.
 fn why_unsaved<F: SlotFile>(files: &SuperblockFiles<F>, failed: &FailedFiles) -> StartFault {
-    for (leg, has_failed) in failed.legs.iter().enumerate() {
-        if *has_failed {
+    for leg in 0..8 {
+        if failed.legs.has(leg) {
             if let Some(error) = files.error(leg) {
                 return StartFault::CannotSave(leg, Unopened::by(*error));
             }
@@ -143,7 +139,7 @@ fn save_into<R: Files<File = File>>(
     alloc: Global,
     found: FoundFiles,
     image: &Superblock,
-    here: &[bool; 8],
+    here: &LegSet,
     went_by: Option<Superblock>,
 ) -> Result<AllFiles, StartFault>
     ensures { IfOk result (λ all. IsSaved ⟦<LateSlots as SlotFile>⟧.honest

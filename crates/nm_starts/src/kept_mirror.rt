@@ -220,9 +220,10 @@ fn lay_unknown_aside(
 // Refuses a leg that was named as the newest one, or as one that was moved, and is missing.
 fn check_all_named(opening: &OpeningSettings<'_>, files: &LegFiles) -> Result<(), StartFault> {
     files.check_named(named_master(opening))?;
-    for (leg, is_moved) in moved_legs(opening).iter().enumerate() {
-        if *is_moved {
-            files.check_named(Some(leg as u8))?;
+    let moved = moved_legs(opening);
+    for leg in 0..8u8 {
+        if moved.has(leg as usize) {
+            files.check_named(Some(leg))?;
         }
     }
     Ok(())

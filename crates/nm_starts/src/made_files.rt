@@ -1,5 +1,6 @@
 //! The files of superblocks that a start makes, and removes where it is refused.
 
+use nm_geometry::LegSet;
 use nm_leg_files::{CallLimit, LateSlots, blank_file, open_or_make};
 use nm_reports::{StartFault, Unopened};
 use nm_saves::SuperblockFile;
@@ -8,10 +9,10 @@ use std::alloc::Global;
 use std::fs::File;
 use std::rt::Files;
 
-/// What a start has made: these files, and what is inside legs in these slots.
+/// What a start has made: the files of these legs, and what is inside legs in these slots.
 #[derive(Drop)]
 pub(crate) struct Made {
-    files: [bool; 8],
+    files: LegSet,
     pub(crate) slots: Vec<LateSlots>,
 }
 
@@ -37,15 +38,15 @@ impl Made {
     /// Nothing so far.
     pub(crate) fn nothing(alloc: Global) -> Made {
         Made {
-            files: [false; 8],
+            files: LegSet::none(),
             slots: Vec::new(alloc),
         }
     }
 
     /// Removes what was made: of the files of these names, and what is inside legs.
     pub(crate) fn remove<R: Files<File = File>>(&self, rt: &R, names: &[String]) {
-        for (name, is_made) in names.iter().zip(self.files.iter()) {
-            if *is_made {
+        for (leg, name) in names.iter().enumerate() {
+            if self.files.has(leg) {
                 let _ = rt.remove_file(name.as_str());
             }
         }
@@ -65,8 +66,8 @@ impl Made {
         first: Option<Superblock>,
         limit: &CallLimit,
     ) -> Result<SuperblockFile<LateSlots>, StartFault> {
-        if let Some(is_made) = self.files.get_mut(leg) {
-            *is_made = rt.symlink_metadata(name).is_err();
+        if leg < 8 {
+            self.files.set(leg, rt.symlink_metadata(name).is_err());
         }
         match make_file(rt, alloc, name, first, limit) {
             Ok(made) => Ok(made),

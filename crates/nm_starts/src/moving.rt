@@ -4,16 +4,18 @@ use crate::adding::number_of;
 use crate::superblock_choice::FoundLegs;
 use nm_assemble::{LegsHere, newest_of, own_legs};
 use nm_commands::{OpeningSettings, Settings, SuperblockPlace};
+use nm_geometry::LegSet;
 use nm_reports::{LogLines, StartFault};
 use std::alloc::Global;
 use std::sync::Wait;
 
 /// The legs of which the words say that they were moved.
-pub fn moved_legs(opening: &OpeningSettings<'_>) -> [bool; 8] {
-    let mut moved = [false; 8];
+pub fn moved_legs(opening: &OpeningSettings<'_>) -> LegSet {
+    let mut moved = LegSet::none();
     for word in opening.moved.iter() {
-        if let Some(is_moved) = moved.get_mut(number_of(word) as usize) {
-            *is_moved = true;
+        let leg = number_of(word) as usize;
+        if leg < 8 {
+            moved.set(leg, true);
         }
     }
     moved
@@ -38,7 +40,7 @@ pub fn check_moved(settings: &Settings<'_>) -> Result<(), StartFault> {
 /// superblocks are of.
 pub fn tell_unmoved<R: Wait>(rt: &R, alloc: Global, seen: &FoundLegs, lines: &LogLines) {
     let still = LegsHere {
-        moved: [false; 8],
+        moved: LegSet::none(),
         ..seen.legs
     };
     let own = match newest_of(&seen.found) {
@@ -46,7 +48,7 @@ pub fn tell_unmoved<R: Wait>(rt: &R, alloc: Global, seen: &FoundLegs, lines: &Lo
         None => seen.legs.here,
     };
     for leg in 0..8 {
-        if seen.legs.moved[leg] && own[leg] {
+        if seen.legs.moved.has(leg) && own.has(leg) {
             let text = format!(in alloc; "--moved {leg}: it was not moved");
             lines.inform(rt, text);
         }

@@ -7,7 +7,7 @@ use crate::starting::named_master;
 use crate::superblock_choice::{Choice, FoundLegs, choose, taken_legs};
 use nm_assemble::{LegsHere, NewMirror, first_superblock};
 use nm_commands::{OpeningSettings, Settings, Start};
-use nm_geometry::Shape;
+use nm_geometry::{LegSet, Shape};
 use nm_leg_files::{LegFiles, REGION};
 use nm_reports::StartFault;
 use nm_superblock::Superblock;
@@ -52,7 +52,7 @@ fn first_image<R: RandomSource>(
     let equal = if named.is_none() || opening.start == Start::Equal {
         legs.here
     } else {
-        [false; 8]
+        LegSet::none()
     };
     Ok(first_superblock(&new, named.unwrap_or(0) as usize, &equal))
 }
@@ -62,14 +62,15 @@ fn first_image<R: RandomSource>(
 fn renew_ids<R: RandomSource>(
     rt: &R,
     image: &mut Superblock,
-    here: &[bool; 8],
+    here: &LegSet,
 ) -> Result<(), StartFault> {
     let mut known = 0u8;
     for stripe in 0..64 {
         known |= image.sets.in_sync(stripe) | image.sets.partial(stripe);
     }
+    let unknown = here.without(&LegSet::of_bits(known));
     for leg in 0..8 {
-        if here[leg] && (known >> leg) & 1 == 0 {
+        if unknown.has(leg) {
             if let Some(id) = image.leg_ids.get_mut(leg) {
                 *id = draw_id(rt)?;
             }

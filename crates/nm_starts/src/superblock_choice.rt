@@ -12,6 +12,7 @@ use nm_assemble::{
     newest_of, own_legs,
 };
 use nm_commands::{OpeningSettings, Start};
+use nm_geometry::LegSet;
 use nm_reports::StartFault;
 use nm_superblock::Superblock;
 
@@ -164,7 +165,7 @@ fn assembled(
 
 /// The legs whose files a start by superblocks takes: those that are here and their own, and all
 /// that are here where a leg was forced on it, or where there are no superblocks.
-pub fn taken_legs(opening: &OpeningSettings<'_>, seen: &FoundLegs) -> [bool; 8]
+pub fn taken_legs(opening: &OpeningSettings<'_>, seen: &FoundLegs) -> LegSet
     ensures { Takes opening.now.force_master seen.now result }
 {
     match (opening.force_master, newest_of(&seen.found)) {

@@ -5,6 +5,7 @@ ghost use Rattle.nm_saves.specs.Files.{AreFound};
 use crate::inside_slots::{FoundSlots, holds_none, make_inside, read_inside};
 use crate::made_files::Made;
 use nm_commands::{MirrorSettings, SuperblockPlace};
+use nm_geometry::LegSet;
 use nm_leg_files::{
     CallLimit, LateFile, LateSlots, LateSuperblock, LegFiles, SlotsAt, bytes_of, no_memory,
     open_locked,
@@ -319,13 +320,12 @@ impl FoundFiles {
         &mut self,
         rt: &R,
         alloc: Global,
-        here: &[bool; 8],
+        here: &LegSet,
         went_by: Option<Superblock>,
     ) -> Result<Vec<LateSuperblock>, StartFault> {
         let mut late = Vec::new(alloc);
         for leg in 0..self.names.len() {
-            let is_here = here.get(leg).copied().unwrap_or(false);
-            let Some(one) = self.complete_leg(rt, alloc, leg, is_here, went_by)? else {
+            let Some(one) = self.complete_leg(rt, alloc, leg, here.has(leg), went_by)? else {
                 continue;
             };
             if late.push(one).is_err() {
@@ -342,7 +342,7 @@ impl FoundFiles {
         self,
         rt: &R,
         alloc: Global,
-        here: &[bool; 8],
+        here: &LegSet,
         image: Superblock,
         went_by: Option<Superblock>,
     ) -> Result<AllFiles, StartFault>

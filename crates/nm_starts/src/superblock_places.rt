@@ -7,6 +7,7 @@ use crate::superblock_opening::FoundFiles;
 use crate::two_places::{PlaceFound, carried_superblocks, counted, earlier_superblocks, is_moved};
 use nm_assemble::{first_misfit, newest_of};
 use nm_commands::{OpeningSettings, Settings, SuperblockPlace};
+use nm_geometry::LegSet;
 use nm_leg_files::{LateSlots, LegFiles, is_same, remove_durably};
 use nm_reports::{LogLines, StartFault, Unopened};
 use nm_saves::SuperblockFile;
@@ -177,10 +178,10 @@ impl OldPlace {
 
 // What was found in these files.
 fn found_in(files: &FoundFiles) -> PlaceFound {
-    let mut damaged = [false; 8];
-    for (leg, file) in files.files.iter().enumerate() {
-        if let (Some(file), Some(is_damaged)) = (file, damaged.get_mut(leg)) {
-            *is_damaged = file.is_damaged();
+    let mut damaged = LegSet::none();
+    for leg in 0..8 {
+        if let Some(Some(file)) = files.files.get(leg) {
+            damaged.set(leg, file.is_damaged());
         }
     }
     PlaceFound {

@@ -4,6 +4,7 @@ ghost use Rattle.nm_starts.specs.TwoPlaces.{AreCarried, AreEarlier, AreLast, Are
 ghost use Rattle.nm_starts.specs.TwoPlaces.{IsMoved, carried_of, earlier_of, last_of, later_of};
 
 use nm_assemble::newest_of;
+use nm_geometry::LegSet;
 use nm_superblock::{Superblock, newer};
 
 /// What was found of the legs' superblocks in one place.
@@ -11,8 +12,8 @@ use nm_superblock::{Superblock, newer};
 pub struct PlaceFound {
     /// The superblocks.
     pub found: [Option<Superblock>; 8],
-    /// For each leg whether its file is damaged.
-    pub damaged: [bool; 8],
+    /// The legs whose files are damaged.
+    pub damaged: LegSet,
 }
 
 /// The superblocks that count of those in two places: of each leg the later one, unless a damaged
@@ -43,7 +44,7 @@ fn later_of(new: &PlaceFound, old: &PlaceFound, leg: usize) -> Option<Superblock
     requires { leg < 8 }
     ensures { result ≡ later_of leg new.now old.now }
 {
-    if new.damaged[leg] || old.damaged[leg] {
+    if new.damaged.has(leg) || old.damaged.has(leg) {
         return None;
     }
     newer(new.found[leg], old.found[leg])

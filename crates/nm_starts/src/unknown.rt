@@ -2,6 +2,7 @@
 ghost use Rattle.std.specs.Prelude.{◌<◌, ◌↔◌, IsTrue};
 ghost use Rattle.nm_starts.specs.Unknown.{AreUnknown, IsUnknown};
 
+use nm_geometry::LegSet;
 use nm_superblock::Superblock;
 
 // Whether the newest superblock knows this leg, of which this one was found, or none.
@@ -14,12 +15,12 @@ fn is_unknown(newest: &Superblock, leg: usize, beside: &Option<Superblock>) -> b
 
 /// Which legs the newest superblock knows though none was found of them: another file may stand
 /// under such a leg's name.
-pub fn unknown_legs(newest: &Superblock, found: &[Option<Superblock>; 8]) -> [bool; 8]
+pub fn unknown_legs(newest: &Superblock, found: &[Option<Superblock>; 8]) -> LegSet
     ensures { AreUnknown 8 newest.now found.now result }
 {
-    let mut unknown = [false; 8];
+    let mut unknown = LegSet::none();
     'legs: for leg in 0..8 {
-        unknown[leg] = is_unknown(newest, leg, &found[leg]);
+        unknown.set(leg, is_unknown(newest, leg, &found[leg]));
     }
     unknown
 }
