@@ -124,14 +124,11 @@ pub fn metrics_of(alloc: Global, files: &LegFiles, sessions: u8) -> Result<Metri
     }
 }
 
-// What saves superblocks behind a lock, if there is something, and those that come late.
-fn locked(
-    alloc: Global,
-    superblocks: Option<Superblocks>,
-) -> (
-    Option<Mutex<SuperblockWriter<LateSlots>>>,
-    Vec<LateSuperblock>,
-) {
+/// What saves superblocks, behind a lock.
+pub type Saver = Mutex<SuperblockWriter<LateSlots>>;
+
+// What saves superblocks, if there is something, and those that come late.
+fn locked(alloc: Global, superblocks: Option<Superblocks>) -> (Option<Saver>, Vec<LateSuperblock>) {
     match superblocks {
         Some(own) => (Some(Mutex::new(own.writer)), own.late),
         None => (None, Vec::new(alloc)),
@@ -146,7 +143,7 @@ pub struct Equipment {
     /// Who syncs the legs' files ahead of a flush.
     pub syncs: LegSyncs,
     /// What saves its superblocks, if it has some.
-    pub superblocks: Option<Mutex<SuperblockWriter<LateSlots>>>,
+    pub superblocks: Option<Saver>,
     /// What an administrator wants of copies.
     pub orders: CopyOrders,
 }

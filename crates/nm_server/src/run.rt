@@ -2,7 +2,7 @@
 //! ended.
 
 use crate::equipment::{Equipment, Opened, metrics_of, open};
-use crate::serving::{Copying, serve_and_copy};
+use crate::serving::{Copying, Server};
 use crate::sessions::{AT_ONCE, ExportName, ServedExport};
 use nm_commands::{MirrorSettings, OpeningSettings, Settings};
 use nm_connections::{Listener, ServingState, SessionRules, Shared, listen, listen_beside};
@@ -199,7 +199,8 @@ where
     let legs = LegRenewer::new(alloc, opener, places, writer, shape)?;
     let maker = maker_of(alloc, &settings.mirror, places, shape)?;
     own.orders.begin_limits();
-    serve_and_copy(rt, shared, export, passes, copying, own, (&legs, &maker))
+    let server = Server::new(shared, export, own, &legs, &maker);
+    server.serve(rt, passes, copying, &own.superblocks)
 }
 
 // Serves the mirror that was opened until a `quit`, and ends it.
