@@ -30,7 +30,7 @@ pub use crate::control_stream::ControlStream;
 pub use crate::ending::{Ending, Quit};
 pub use crate::hang_up::HangUp;
 pub use crate::listener::Listener;
-pub use crate::listening::{Listening, listen, listen_beside};
+pub use crate::listening::{listen, listen_beside};
 pub use crate::serving_state::{ServingState, Shared};
 pub use crate::session_lines::{SessionEnd, tell_begin, tell_end};
 pub use crate::session_places::SessionPlaces;
