@@ -1,5 +1,5 @@
 -- One leg more stands, and the others stay.
-use Rattle.std.proofs.Common.{ℕ, ◌<◌, false, ⊎_elim, slice_set, slice_index_or, sym, ◌∙◌, subst, arith}
+use Rattle.std.proofs.Common.{ℕ, ◌<◌, Bool, false, ⊎_elim, slice_set, slice_index_or, sym, ◌∙◌, subst, arith}
 use Rattle.std.proofs.lemmas.List.{get_or-set_other, get_or-set_same, length-set}
 use Rattle.std.proofs.lemmas.Bool.{cases_eq}
 use Rattle.nm_rules.specs.declared.leg_opening.LegOpening.{LegOpening}
@@ -18,7 +18,8 @@ legs-preserved c =
       length-set old own is ∙ long,
       λ leg below. ⊎_elim
           (λ same. subst (λ (k : ℕ). stands k (slice_index_or (slice_set old own is) k Missing)) (sym same)
-          (subst (stands own) (sym (get_or-set_same old own is Missing (omega (arith, long, inside)))) c.leg_opening.ensures))
+          (subst (stands own) (sym (get_or-set_same old own is Missing (omega (arith, long, inside))))
+          (subst (λ (b : Bool). OpensBy own c.args.stripe c.args.image.now b is) c.has.ensures c.leg_opening.ensures)))
           (λ other. subst (stands leg) (sym (get_or-set_other old own leg is Missing other)) (c.legs.invariant.1 leg (omega (arith, below, other))))
           (cases_eq leg own),
     )
