@@ -2,7 +2,7 @@
 use Rattle.std.specs.Prelude.{◌≡◌, ◌<◌, ◌↔◌, ℕ, Bool, true, false, not, IsTrue}
 use Rattle.std.specs.Prelude.{List, length, map, slice_index_or, Option, None, Some}
 use Rattle.nm_gate.specs.Durable.{Durable}
-use Rattle.nm_geometry.specs.LegSets.{has}
+use Rattle.nm_geometry.specs.LegSets.{has, legs_where}
 use Rattle.nm_plans.specs.Plan.{AreDurablesOf}
 use Rattle.nm_rules.specs.State.{StripeState}
 use Rattle.nm_saves.specs.FileState.{FileState}
@@ -10,17 +10,16 @@ use Rattle.nm_saves.specs.Files.{AreFound}
 use Rattle.nm_saves.specs.SavingAll.{FilesState, IsDone, request_of}
 use Rattle.nm_superblock.specs.declared.superblock.Superblock.{Superblock}
 
--- of the first legs those are out whose files are not here
-abbrev pub AreAbsent : ℕ → (here out : List Bool) → Type 0
-AreAbsent count here out = (leg : ℕ) → leg < count → has leg out ≡ not (has leg here)
+-- the legs whose files are not here
+abbrev pub absent_legs : (here : List Bool) → List Bool
+absent_legs here = legs_where (λ leg. not (has leg here))
 
--- What the image says was saved, as by a server that has not ended: with legs out whose files are
--- not here.
-pub record SavesOnce (honest : Bool) (image : Superblock) (here : List Bool)
-    (old new : FilesState) : Type 0 where
-  pub out : List Bool
-  pub absent : AreAbsent 8 here out
-  pub done : IsDone honest (request_of image.sets image.marked false image.changed out) old new
+-- What the image says was saved, as by a server that has not ended: with the legs out whose files
+-- are not here.
+abbrev pub SavesOnce : (honest : Bool) → Superblock → (here : List Bool) → (old new : FilesState)
+    → Type 0
+SavesOnce honest image here old new =
+    IsDone honest (request_of image.sets image.marked false image.changed (absent_legs here)) old new
 
 -- a save was done, or two of them
 abbrev pub SavesTimes : (twice : Bool) → (FilesState → FilesState → Type 0)

@@ -1,6 +1,7 @@
 pub mod Alike
 pub mod ByImage
 pub mod ChangedStart
+pub mod ImageShape
 pub mod Kept
 pub mod NewestStart
 pub mod OpenedOn

@@ -1,4 +1,6 @@
 //! The shape of the mirror that superblocks are of.
+ghost use Rattle.std.specs.Prelude.{◌↔◌, IfOk, IsTrue};
+ghost use Rattle.nm_starts.specs.ImageShape.{IsShapeOf};
 
 use nm_commands::MirrorSettings;
 use nm_geometry::Shape;
@@ -11,7 +13,9 @@ pub fn shape_by(
     mirror: &MirrorSettings<'_>,
     files: &LegFiles,
     image: &Superblock,
-) -> Result<Shape, StartFault> {
+) -> Result<Shape, StartFault>
+    ensures { IfOk result (IsShapeOf image.now) }
+{
     let shape = match files.shape(image.stripes, mirror.history) {
         Some(shape) if fits(&shape, image) => shape,
         _ => return Err(StartFault::OtherMirror(image.leg as usize)),
@@ -39,7 +43,9 @@ fn check_stripes(
 }
 
 // Whether the image is of a mirror of this shape.
-fn fits(shape: &Shape, image: &Superblock) -> bool {
+fn fits(shape: &Shape, image: &Superblock) -> bool
+    ensures { IsTrue result ↔ IsShapeOf image.now shape.now }
+{
     image.blocks == shape.blocks
         && u64::from(image.region_blocks) == shape.region
         && image.span_regions > 0

@@ -1,8 +1,8 @@
 //! Stripes behind their gates: what the start chose is saved, and each gate is told.
 ghost use Rattle.std.specs.Prelude.{◌≡◌, ◌↔◌, IfOk, OnOk, IsTrue, map};
 ghost use Rattle.nm_mirror.specs.Stripes.{AreStripesOf};
-ghost use Rattle.nm_starts.specs.Kept.{AreAbsent, GatesKnow, HasOlder, IsOlder, IsSaved};
-ghost use Rattle.nm_starts.specs.Kept.{SavesOnce, SavesTimes};
+ghost use Rattle.nm_starts.specs.Kept.{GatesKnow, HasOlder, IsOlder, IsSaved};
+ghost use Rattle.nm_starts.specs.Kept.{SavesOnce, SavesTimes, absent_legs};
 
 use crate::superblock_opening::{AllFiles, FoundFiles};
 use nm_gate::GatedStripe;
@@ -82,7 +82,7 @@ fn has_older_version(found: &[Option<Superblock>; 8]) -> bool
 
 // The legs whose files are not here.
 fn absent_legs(here: &LegSet) -> LegSet
-    ensures { AreAbsent 8 here.now result }
+    ensures { result ≡ absent_legs here.now }
 {
     LegSet::of([true; 8]).without(here)
 }

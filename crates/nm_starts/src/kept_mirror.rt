@@ -1,5 +1,5 @@
 //! The mirror over the legs' files, as it is opened: with superblocks, or without.
-ghost use Rattle.std.specs.Prelude.{map};
+ghost use Rattle.std.specs.Prelude.{◌≡◌, map, IfOk};
 ghost use Rattle.nm_mirror.specs.Stripes.{AreStripesOf};
 
 use crate::adding::take_added;
@@ -55,6 +55,7 @@ fn mirror_of(
     stripes: Vec<GatedStripe<Leg>>,
 ) -> Result<FileMirror, StartFault>
     requires { AreStripesOf shape (map (λ own. own.stripe) stripes.items) }
+    ensures { IfOk result (λ mirror. mirror.shape ≡ shape) }
 {
     match Mirror::new(alloc, shape, stripes, NoGate) {
         Ok(mirror) => Ok(mirror),

@@ -18,9 +18,9 @@ fn is_unknown(newest: &Superblock, leg: usize, beside: &Option<Superblock>) -> b
 pub fn unknown_legs(newest: &Superblock, found: &[Option<Superblock>; 8]) -> LegSet
     ensures { AreUnknown 8 newest.now found.now result }
 {
-    let mut unknown = LegSet::none();
+    let mut unknown = [false; 8];
     'legs: for leg in 0..8 {
-        unknown.set(leg, is_unknown(newest, leg, &found[leg]));
+        unknown[leg] = is_unknown(newest, leg, &found[leg]);
     }
-    unknown
+    LegSet::of(unknown)
 }

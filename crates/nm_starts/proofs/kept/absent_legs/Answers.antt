@@ -1,12 +1,9 @@
--- They are all legs but those that are here.
-use Rattle.std.proofs.Common.{Bool, true, not, ◌&&◌, ap, ◌∙◌}
-use Rattle.nm_geometry.specs.LegSets.{has}
-use Rattle.nm_geometry.proofs.LegSetLemmas.{has-where}
+-- Of all legs they are those that are not here.
+use Rattle.std.proofs.Common.{List, Bool, not, ◌&&◌, ap, ◌∙◌}
+use Rattle.nm_geometry.specs.LegSets.{has, legs_where}
 use Rattle.nm_starts.proofs.kept.absent_legs.Goals as goal
 
 pub returns : goal.returns
-returns c leg below =
-    ap (has leg) c.without.ensures
-    ∙ has-where (λ k. has k c.of.result && not (has k c.args.here.now)) leg below
-    ∙ ap (λ (b : Bool). b && not (has leg c.args.here.now))
-    (ap (has leg) c.of.ensures ∙ has-where (λ _. true) leg below)
+returns c =
+    c.without.ensures
+    ∙ ap (λ (all : List Bool). legs_where (λ leg. has leg all && not (has leg c.args.here.now))) c.of.ensures

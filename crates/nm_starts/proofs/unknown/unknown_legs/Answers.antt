@@ -1,8 +1,11 @@
 -- One leg more is told, and the others stay.
-use Rattle.nm_assemble.proofs.SetLemmas.{one-more}
+use Rattle.std.proofs.Common.{arith, ◌∙◌}
+use Rattle.std.proofs.lemmas.Bool.{cases_eq}
+use Rattle.std.proofs.lemmas.List.{get_or-set_other, get_or-set_same, length-set}
 use Rattle.nm_starts.proofs.unknown.unknown_legs.Goals as goal
 
 pub legs-preserved : goal.legs-preserved
-legs-preserved c =
-    one-more _ c.legs.leg c.legs.unknown _ _ c.legs.invariant c.set.ensures c.is_unknown.ensures
-    c.legs-test.true
+legs-preserved c = (
+  length-set c.legs.unknown c.legs.leg c.is_unknown.result ∙ c.legs.invariant.0,
+  λ leg below. grind (arith, cases_eq leg c.legs.leg, get_or-set_other, get_or-set_same),
+)
