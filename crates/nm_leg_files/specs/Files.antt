@@ -1,6 +1,6 @@
 -- The legs' files, the mirror that is laid over them, and where its legs stand.
 use Rattle.std.specs.Arc.{arc_value}
-use Rattle.std.specs.Prelude.{ℕ, zero, suc, ◌*◌, ◌-◌, ◌^◌, min, string_bytes}
+use Rattle.std.specs.Prelude.{◌≡◌, ℕ, zero, suc, ◌*◌, ◌-◌, ◌^◌, min, string_bytes}
 use Rattle.std.specs.Prelude.{List, [], ◌∷◌, ◌++◌, length, map}
 use Rattle.nm_geometry.specs.Geometry.{Geometry, geometry, regions_for}
 use Rattle.nm_leg_files.specs.declared.counting_file.CountingFile.{CountingFile}
@@ -72,3 +72,8 @@ abbrev pub file_places : (stripes : ℕ) → Geometry → LegFile → List LegPl
 file_places zero shape leg = []
 file_places (suc stripes) shape leg =
     file_places stripes shape leg ++ place_on stripes shape leg ∷ []
+
+-- a leg that stands here is of this stripe of a mirror of this shape, and that user of its file
+abbrev pub IsOfStripe : (stripe : ℕ) → Geometry → LegPlace → Type 0
+IsOfStripe stripe shape place =
+    place ≡ record { file = place.file; user = stripe; stripe = stripe; shape = shape }

@@ -2,5 +2,6 @@ pub mod Files
 pub mod Fitting
 pub mod Here
 pub mod LegTime
+pub mod Places
 pub mod SavedTimes
 pub mod Saving

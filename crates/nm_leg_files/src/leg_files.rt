@@ -6,6 +6,7 @@ ghost use Rattle.nm_leg_files.specs.Files.{bytes_in, laid_over, leg_place, mirro
 ghost use Rattle.nm_leg_files.specs.Files.{names_of, place_on, stripe_places};
 ghost use Rattle.nm_leg_files.specs.Here.{AllHere, AreHere, AreOfHere, SomeHere};
 ghost use Rattle.nm_leg_files.specs.Here.{is_here, is_here_at};
+ghost use Rattle.nm_leg_files.specs.Places.{kept_from, kept_in, kept_of};
 
 use crate::absence::Absence;
 use crate::counting_file::{BytesRead, CountingFile};
@@ -152,15 +153,28 @@ impl LegFiles {
         })
     }
 
-    /// The files as they were opened by their names.
-    pub fn places(&self, alloc: Global) -> Result<Vec<LegPlace>, AllocError> {
+    // The file of this leg as it was opened by its name.
+    fn place(&self, alloc: Global, leg: usize, file: &LegFile) -> Result<LegPlace, AllocError>
+        ensures { IfOk result (λ place. kept_in place ≡ kept_of self.now leg file.now) }
+    {
+        let name = String::from_str(alloc, file.name.as_str())?;
+        let own = file.share(alloc)?;
+        let bytes = self.blocks.saturating_mul(BLOCK_BYTES);
+        let mut place = LegPlace::new(alloc, name, own, bytes, self.rules);
+        if let Some(all) = self.recorded {
+            place.recorded = Some((leg, all));
+        }
+        Ok(place)
+    }
+
+    /// The files as they were opened by their names, leg 0's first.
+    pub fn places(&self, alloc: Global) -> Result<Vec<LegPlace>, AllocError>
+        ensures { IfOk result (λ places.
+            map kept_in places.items ≡ kept_from self.now 0 self.now.files.items) }
+    {
         let mut places = Vec::new(alloc);
-        for (leg, file) in self.files.iter().enumerate() {
-            let name = String::from_str(alloc, file.name.as_str())?;
-            let own = file.share(alloc)?;
-            let bytes = self.blocks.saturating_mul(BLOCK_BYTES);
-            let mut place = LegPlace::new(alloc, name, own, bytes, self.rules);
-            place.recorded = self.recorded.map(|all| (leg, all));
+        for (number, file) in self.files.iter().enumerate() {
+            let place = self.place(alloc, number, file)?;
             places.push(place)?;
         }
         Ok(places)

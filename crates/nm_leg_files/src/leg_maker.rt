@@ -1,4 +1,6 @@
 //! Makes the legs of a stripe anew, while its mirror serves.
+ghost use Rattle.std.specs.Prelude.{◌≡◌, ◌≤◌, All, IfSome, None, length};
+ghost use Rattle.nm_leg_files.specs.Files.{IsOfStripe, leg_place};
 
 use crate::counting_file::BytesRead;
 use crate::leg_files::{Leg, stripe_leg};
@@ -46,16 +48,21 @@ impl<'x> LegMaker<'x> {
 }
 
 impl<'x> MakesLegs<Leg> for LegMaker<'x> {
-    fn make(&self, alloc: Global, stripe: u32) -> Option<Vec<Leg>> {
+    fn make(&self, alloc: Global, stripe: u32) -> Option<Vec<Leg>>
+        ensures none { self.now.shape.stripes ≤ stripe → result ≡ None }
+        ensures count { IfSome result (λ legs. length legs.items ≡ length self.now.places.now) }
+        ensures own { IfSome result (λ legs. All (λ leg. IsOfStripe stripe self.now.shape
+            (leg_place leg.medium leg.stripe leg.shape)) legs.items) }
+    {
         if stripe >= self.shape.stripes {
             return None;
         }
         let mut legs = Vec::new(alloc);
         for (number, place) in self.places.iter().enumerate() {
             let file = place.file.try_lock()?;
-            let made = stripe_leg(alloc, &file, number, &self.shape, stripe, &self.read);
-            let Ok(leg) = made else {
-                return None;
+            let leg = match stripe_leg(alloc, &file, number, &self.shape, stripe, &self.read) {
+                Ok(leg) => leg,
+                Err(_) => return None,
             };
             if legs.push(leg).is_err() {
                 return None;

@@ -1,4 +1,5 @@
 //! Whether a leg's file is still there under its name, or there at last.
+ghost use Rattle.std.specs.Prelude.{◌≡◌, None};
 
 use crate::identities::{RecordedFiles, identity_by};
 use crate::late_file::LateFile;
@@ -83,13 +84,12 @@ fn region_beside(at: u64, bytes: u64) -> u64 {
 impl LegPlace {
     /// The file of so many bytes for the export that is opened by this name, and what it has to
     /// keep to where it is opened later.
-    pub fn new(
-        alloc: Global,
-        name: String,
-        file: LegFile,
-        bytes: u64,
-        rules: LegRules,
-    ) -> LegPlace {
+    pub fn new(alloc: Global, name: String, file: LegFile, bytes: u64, rules: LegRules) -> LegPlace
+        ensures name { result.name ≡ name }
+        ensures bytes { result.bytes ≡ bytes }
+        ensures rules { result.rules ≡ rules }
+        ensures recorded { result.recorded ≡ None }
+    {
         LegPlace {
             alloc,
             name,

@@ -1,5 +1,6 @@
 //! What others have of the legs' files: how long they are, and shares of what is noted and counted
 //! of them.
+ghost use Rattle.std.specs.Prelude.{◌≡◌, IfOk, length};
 
 use crate::leg_files::LegFiles;
 use crate::leg_opening::BLOCK_BYTES;
@@ -39,11 +40,14 @@ impl LegFiles {
         Ok(troubles)
     }
 
-    /// The limits of the legs' calls.
-    pub fn limits(&self, alloc: Global) -> Result<Vec<CallLimit>, AllocError> {
+    /// The limits of the legs' calls, one a leg.
+    pub fn limits(&self, alloc: Global) -> Result<Vec<CallLimit>, AllocError>
+        ensures { IfOk result (λ limits. length limits.items ≡ length self.now.files.items) }
+    {
         let mut limits = Vec::new(alloc);
-        for file in &self.files {
-            limits.push(share_limit(file.shared.file().limit())?)?;
+        'legs: for leg in 0..self.files.len() {
+            let limit = share_limit(self.files[leg].shared.file().limit())?;
+            limits.push(limit)?;
         }
         Ok(limits)
     }

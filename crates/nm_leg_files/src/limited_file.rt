@@ -1,5 +1,7 @@
 //! A leg's file whose calls may take no longer than a time, where that was asked for.
 ghost use Rattle.std.specs.Prelude.{◌≡◌, None, IsErr, IfOk};
+ghost use Rattle.std.specs.Arc.{arc_value};
+ghost use Rattle.std.specs.Option.{option_map};
 
 use crate::late_file::LateFile;
 use crate::timed_calls::TimedCalls;
@@ -19,7 +21,11 @@ pub struct LimitedFile {
 }
 
 /// A share of a limit.
-pub fn share_limit(limit: &CallLimit) -> Result<CallLimit, AllocError> {
+pub fn share_limit(limit: &CallLimit) -> Result<CallLimit, AllocError>
+    ensures { IfOk result (λ own.
+        option_map (λ calls. arc_value calls) own
+        ≡ option_map (λ calls. arc_value calls) limit.now) }
+{
     match limit {
         Some(calls) => Ok(Some(Arc::try_clone(calls)?)),
         None => Ok(None),
