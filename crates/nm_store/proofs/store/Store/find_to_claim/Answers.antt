@@ -1,24 +1,24 @@
 -- The run of the ticket, as its first block has it.
 use Rattle.std.proofs.Common.{rules, ◌≡◌, None, Some, false, sym, ap, ◌∙◌}
-use Rattle.nm_fanout.specs.Records.{find_record}
+use Rattle.nm_fanout.specs.Records.{IsAt, find_record}
 use Rattle.nm_rules.specs.State.{StripeState}
 use Rattle.nm_store.proofs.StoreLemmas.{claim-none, claim-going, claim-over}
-use Rattle.nm_store.proofs.store.Store.claim_cause.Goals as goal
+use Rattle.nm_store.proofs.store.Store.find_to_claim.Goals as goal
 
 pub returns-in_default : goal.returns-in_default
 returns-in_default g c =
     let runs : c.args.self.now.stopped ≡ false = search rules in
     let none : find_record c.args.ticket c.self.inside.records ≡ None = search rules in
-    claim-none c.args.self.now c.args.ticket c.self.inside.records c.get.ensures.in_order (ap (λ (s : StripeState _). s.records) (sym c.self.view_is)) runs none
+    record { ok = tt; cause = sym (claim-none c.args.self.now c.args.ticket c.self.inside.records c.find.ensures.in_order (ap (λ (s : StripeState _). s.records) (sym c.self.view_is)) runs none) }
 
 pub returns-then-is_under_way : goal.returns-then-is_under_way
 returns-then-is_under_way g c =
     let runs : c.args.self.now.stopped ≡ false = search rules in
-    let found : find_record c.args.ticket c.self.inside.records ≡ Some c.in-Some.run'.now = search rules in
-    claim-going c.args.self.now c.args.ticket c.self.inside.records c.get.ensures.in_order (ap (λ (s : StripeState _). s.records) (sym c.self.view_is)) runs c.in-Some.run'.now found (sym c.is_under_way.ensures ∙ c.if-is_under_way.true)
+    let at : IsAt c.args.ticket c.in-Some.place c.self.inside.records = search rules in
+    record { ok = tt; cause = sym (claim-going c.args.self.now c.args.ticket c.self.inside.records c.find.ensures.in_order (ap (λ (s : StripeState _). s.records) (sym c.self.view_is)) runs c.at.result.now (at.found ∙ c.at.ensures.found) (sym c.is_under_way.ensures ∙ c.if-is_under_way.true)) }
 
 pub returns-else-is_under_way : goal.returns-else-is_under_way
 returns-else-is_under_way g c =
     let runs : c.args.self.now.stopped ≡ false = search rules in
-    let found : find_record c.args.ticket c.self.inside.records ≡ Some c.in-Some.run'.now = search rules in
-    claim-over c.args.self.now c.args.ticket c.self.inside.records c.get.ensures.in_order (ap (λ (s : StripeState _). s.records) (sym c.self.view_is)) runs c.in-Some.run'.now found (sym c.is_under_way.ensures ∙ c.if-is_under_way.false)
+    let at : IsAt c.args.ticket c.in-Some.place c.self.inside.records = search rules in
+    record { ok = sym (claim-over c.args.self.now c.args.ticket c.self.inside.records c.find.ensures.in_order (ap (λ (s : StripeState _). s.records) (sym c.self.view_is)) runs c.at.result.now (at.found ∙ c.at.ensures.found) (sym c.is_under_way.ensures ∙ c.if-is_under_way.false)); cause = tt }
