@@ -1,5 +1,5 @@
 -- The run of the ticket, as its first block has it.
-use Rattle.std.proofs.Common.{rules, ◌≡◌, None, Some, false, sym, ap, ◌∙◌}
+use Rattle.std.proofs.Common.{rules, ◌≡◌, None, false, sym, ap, ◌∙◌}
 use Rattle.nm_fanout.specs.Records.{IsAt, find_record}
 use Rattle.nm_rules.specs.State.{StripeState}
 use Rattle.nm_store.proofs.FindingLemmas.{place-found}
