@@ -102,8 +102,8 @@ impl Records {
         self.tickets.binary_search(&ticket).ok()
     }
 
-    /// As `find`, but without a search where the record is at the place `near`: an earlier call found
-    /// it there, and no older record has been claimed since.
+    /// As `find`, but with no search where the record is at the place `near`, as it is at one that an
+    /// earlier call gave, until an older record is claimed.
     pub fn find_near(&self, ticket: u64, near: usize) -> Option<usize>
         ensures found { IfSome result (λ place. IsAt ticket place self.now) }
         ensures absent { IfNone result (find_record ticket self.now ≡ None) }
