@@ -1,0 +1,107 @@
+-- What each move does to a stripe and to what the durable superblock may say of it.
+use Rattle.std.specs.Prelude.{◌≡◌, ℕ, ◌^◌, true, false, List, [], Option, None, Some, is_some}
+use Rattle.std.specs.Prelude.{slice_get}
+use Rattle.nm_choice.specs.declared.leg_state.LegState.TheVariants as state
+use Rattle.nm_leg.specs.Leg.{Leg, LegType, blocks_of}
+use Rattle.nm_replay.specs.Array.{Array}
+use Rattle.nm_rules.specs.Invariant.{Keeps}
+use Rattle.nm_rules.specs.Losing.{with_part}
+use Rattle.nm_rules.specs.Opening.{opened}
+use Rattle.nm_rules.specs.RunCalls.{ReadsRunAt}
+use Rattle.nm_rules.specs.State.{StripeState, is_out, leg_state, next_number}
+use Rattle.nm_stripe.specs.Run.{MayBeAsked, StepOf}
+use Rattle.nm_stripe.specs.declared.answer.Answer.{Answer}
+use Rattle.nm_stripe.specs.declared.step.Step.{Step}
+use Rattle.nm_stripe.specs.declared.step.Step.TheVariants.{Attach, Return}
+use Rattle.nm_gate.specs.declared.gated_stripe.GatedStripe.{GatedStripe}
+use Rattle.nm_gate.specs.Durable.{Durable, is_named}
+use Rattle.nm_gate.specs.Gate.{IsAllowed}
+use Rattle.nm_gate.specs.Moves.{Unmarks}
+use Rattle.nm_gate.specs.Returning.{suspects}
+use Rattle.nm_gate.specs.Saves.{Resaves}
+use Rattle.nm_losses.specs.Crashing.{CrashesTo}
+use Rattle.nm_history.specs.declared.transition.Move.{Move}
+use Rattle.nm_history.specs.declared.transition.Move.TheVariants.{Opens, Does, Looks, Saves}
+use Rattle.nm_history.specs.declared.transition.Move.TheVariants.{Clears, Loses}
+
+-- a stripe as it opens: it keeps what every stripe keeps, runs, and has done nothing yet
+pub record IsOpening {L : Type 0} (type : LegType L) (stripe : StripeState L) : Type 0 where
+  pub keeps : Keeps type stripe
+  pub runs : stripe.stopped ≡ false
+  pub no_records : stripe.records ≡ []
+  pub no_entries : stripe.total ≡ 0
+
+-- the superblock, where there is one, may call no leg in sync but this
+abbrev pub NamesOnly : ℕ → Option Durable → Type 0
+NamesOnly leg None = Unit {0}
+NamesOnly leg (Some d) = (other : ℕ) → is_named other d ≡ true → other ≡ leg
+
+-- A stripe that stopped opens anew, at its place, from the leg that it stopped on, with the next
+-- number. What the superblock may say stays, and calls no other leg in sync.
+pub record OpensAgain {L : Type 0} (type : LegType L) (old new : GatedStripe L) : Type 0 where
+  pub stopped : old.stripe.stopped ≡ true
+  pub alone : NamesOnly old.stripe.master old.durable
+  pub opening : IsOpening type new.stripe
+  pub stripe : new.stripe ≡ opened old.stripe.place new.stripe.legs (2 ^ old.stripe.master)
+      (next_number old.stripe) new.stripe.policy
+  pub durable : new.durable ≡ old.durable
+
+-- a leg joins again with the marks that the gate gives it, and never as if it had lost nothing
+abbrev pub JoinsMarked : {L : Type 0} → Option Durable → Step L → Type 0
+JoinsMarked durable (Attach leg) = ⊥
+JoinsMarked durable (Return leg marks) = marks ≡ suspects leg durable
+JoinsMarked durable step = Unit {0}
+
+-- a step that the gate lets pass is done, and what the superblock may say stays
+pub record DoesStep {L : Type 0} (type : LegType L) (step : Step L) (answer : Answer L)
+    (old new : GatedStripe L) : Type 0 where
+  pub allowed : IsAllowed old.durable old.stripe step
+  pub marked : JoinsMarked old.durable step
+  pub asked : MayBeAsked type.model old.stripe step
+  pub does : StepOf type step answer old.stripe new.stripe
+  pub durable : new.durable ≡ old.durable
+
+-- the blocks that a look found
+abbrev pub found_blocks : Option (List ℕ) → Array
+found_blocks None = []
+found_blocks (Some bytes) = blocks_of bytes
+
+-- a leg in sync is read, and nothing else changes
+pub record LooksAt {L : Type 0} (type : LegType L) (leg block : ℕ) (found : Option (List ℕ))
+    (old new : GatedStripe L) : Type 0 where
+  pub in_sync : leg_state leg old.stripe ≡ state.InSync
+  pub reads : ReadsRunAt type (is_some found) leg block (found_blocks found)
+      old.stripe.legs new.stripe.legs
+  pub stripe : new.stripe ≡ record old.stripe { legs = new.stripe.legs }
+  pub durable : new.durable ≡ old.durable
+
+-- there is a superblock before and after, and what it may say changes so
+abbrev pub Changes : (Durable → Durable → Type 0) → (old new : Option Durable) → Type 0
+Changes so (Some d) (Some e) = so d e
+Changes so old new = ⊥
+
+-- only what the superblock may say changes, and does so
+pub record ChangesBounds {L : Type 0} (so : Durable → Durable → Type 0) (old new : GatedStripe L)
+    : Type 0 where
+  pub stripe : new.stripe ≡ old.stripe
+  pub durable : Changes so old.durable new.durable
+
+-- a leg that is out loses power, and has what that leaves of it
+pub record LosesPower {L : Type 0} (model : L → Leg) (leg : ℕ) (old new : GatedStripe L)
+    : Type 0 where
+  pub held : L
+  pub part : L
+  pub out : is_out (leg_state leg old.stripe) ≡ true
+  pub was : slice_get old.stripe.legs leg ≡ Some held
+  pub crash : CrashesTo model held part
+  pub stripe : new.stripe ≡ with_part old.stripe leg part
+  pub durable : new.durable ≡ old.durable
+
+-- the move leads from one to the other
+abbrev pub MoveOf : {L : Type 0} → LegType L → Move L → (old new : GatedStripe L) → Type 0
+MoveOf type Opens old new = OpensAgain type old new
+MoveOf type (Does step answer) old new = DoesStep type step answer old new
+MoveOf type (Looks leg block found) old new = LooksAt type leg block found old new
+MoveOf type Saves old new = ChangesBounds (Resaves old.stripe) old new
+MoveOf type Clears old new = ChangesBounds (Unmarks type.model old.stripe) old new
+MoveOf type (Loses leg) old new = LosesPower type.model leg old new
