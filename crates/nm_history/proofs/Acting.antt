@@ -1,43 +1,26 @@
 -- The operations of a history act on one array: each step is explained, and no other move shows.
-use Rattle.std.proofs.Common.{◌≡◌, ℕ, IsTrue, List, [], ◌∷◌, ◌++◌, is_some, refl, sym, subst}
-use Rattle.nm_leg.specs.Leg.{Leg, LegType}
-use Rattle.nm_rules.specs.Acts.{Acts, IsExplainedStep}
+use Rattle.std.proofs.Common.{◌≡◌, ℕ, IsTrue, List, [], ◌∷◌, ◌++◌, sym, subst}
+use Rattle.nm_leg.specs.Leg.{LegType}
+use Rattle.nm_rules.specs.Acts.{Acts}
 use Rattle.nm_rules.specs.Invariant.{Keeps}
 use Rattle.nm_rules.specs.State.{StripeState}
-use Rattle.nm_rules.proofs.ActsLemmas.{acts-append, acts-none}
-use Rattle.nm_rules.proofs.CalledLemmas.{called-acts}
+use Rattle.nm_rules.proofs.ActsLemmas.{acts-none}
 use Rattle.nm_rules.proofs.SoundLemmas.{keeps-sound}
 use Rattle.nm_stripe.specs.declared.answer.Answer.{Answer}
 use Rattle.nm_stripe.specs.declared.step.Step.{Step}
-use Rattle.nm_stripe.specs.Run.{ActOnOneArray, NoneHalted, marks}
+use Rattle.nm_stripe.specs.Run.{ActOnOneArray, NoneHalted}
 use Rattle.nm_stripe.proofs.RunLemmas.{none-acts}
 use Rattle.nm_gate.specs.declared.gated_stripe.GatedStripe.{GatedStripe}
+use Rattle.nm_gate.proofs.Looked.{looked-acts}
 use Rattle.nm_losses.proofs.Explained.{step-explained}
-use Rattle.nm_losses.proofs.Lists.{none-first}
+use Rattle.nm_losses.proofs.Lists.{act-front, none-first, unseen-front}
 use Rattle.nm_history.specs.declared.transition.Move.{Move}
 use Rattle.nm_history.specs.declared.transition.Move.TheVariants.{Opens, Does, Looks, Saves, Clears, Loses}
 use Rattle.nm_history.specs.declared.transition.Transition.{Transition}
 use Rattle.nm_history.specs.History.{Follow, end_of}
 use Rattle.nm_history.specs.Laws.{All, HistoryActs, IsNoLoss, IsNoOpening, answers_in, answers_of, steps_in, steps_of}
-use Rattle.nm_history.specs.Moves.{MoveOf, found_blocks}
-use Rattle.nm_history.proofs.Lists.{all-back, all-keep, legal-follow, legal-keeps, look-same, move-keeps}
-
--- a step in front of others
-act-front : {L : Type 0} (model : L → Leg) (old mid new : StripeState L) (step : Step L) (answer : Answer L) (steps : List (Step L)) (answers : List (Answer L))
-    → IsExplainedStep model (marks step answer) old mid → ActOnOneArray model steps answers mid new → ActOnOneArray model (step ∷ steps) (answer ∷ answers) old new
-act-front model old mid new step answer steps answers one all = record {
-  events_of_each = one.events ∷ all.events_of_each;
-  interleaving = (one.marked, all.interleaving);
-  acts = acts-append model old mid new one.events _ one.acts all.acts;
-}
-
--- what no caller sees, in front of others
-unseen-front : {L : Type 0} (model : L → Leg) (old mid new : StripeState L) (steps : List (Step L)) (answers : List (Answer L)) → Acts model old mid [] → ActOnOneArray model steps answers mid new → ActOnOneArray model steps answers old new
-unseen-front model old mid new steps answers none all = record {
-  events_of_each = all.events_of_each;
-  interleaving = all.interleaving;
-  acts = acts-append model old mid new [] _ none all.acts;
-}
+use Rattle.nm_history.specs.Moves.{MoveOf}
+use Rattle.nm_history.proofs.Lists.{all-back, all-keep, legal-follow, legal-keeps, move-keeps}
 
 module _ {L : Type 0} (type : LegType L) (is_honest : IsTrue type.honest) where
   -- nothing of the stripe changes
@@ -52,9 +35,7 @@ module _ {L : Type 0} (type : LegType L) (is_honest : IsTrue type.honest) where
       let first = none-first answer answers goes in
       act-front type.model old.stripe mid.stripe new step answer steps answers (step-explained type old.stripe mid.stripe k is_honest step answer is.asked first.0 is.does) (rest first.1)
   move-acts (Looks leg block found) old mid new steps answers k whole stays is goes rest =
-      unseen-front type.model old.stripe mid.stripe new steps answers
-      (subst (λ (s : StripeState L). Acts type.model old.stripe s []) (sym is.stripe) (called-acts type old.stripe mid.stripe.legs (look-same type (is_some found) leg block (found_blocks found) old.stripe mid.stripe is.reads) is_honest k))
-      (rest goes)
+      unseen-front type.model old.stripe mid.stripe new steps answers (looked-acts type leg block found old.stripe mid.stripe is.0 is_honest k) (rest goes)
   move-acts Saves old mid new steps answers k whole stays is goes rest = unseen-front type.model old.stripe mid.stripe new steps answers (same-acts old.stripe mid.stripe k is.stripe) (rest goes)
   move-acts Clears old mid new steps answers k whole stays is goes rest = unseen-front type.model old.stripe mid.stripe new steps answers (same-acts old.stripe mid.stripe k is.stripe) (rest goes)
   move-acts (Loses leg) old mid new steps answers k whole stays is goes rest = absurd whole

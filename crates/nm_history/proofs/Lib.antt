@@ -1,2 +1,4 @@
 pub mod Acting
 pub mod Lists
+pub mod Restarting
+pub mod Worked

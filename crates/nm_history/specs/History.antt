@@ -1,5 +1,5 @@
 -- A history of a stripe: moves, each with the stripe and its gate as it left them.
-use Rattle.std.specs.Prelude.{◌≡◌, ℕ, List, [], ◌∷◌}
+use Rattle.std.specs.Prelude.{◌≡◌, ℕ, List, [], ◌∷◌, Option, None, Some}
 use Rattle.nm_leg.specs.Leg.{LegType}
 use Rattle.nm_gate.specs.declared.gated_stripe.GatedStripe.{GatedStripe}
 use Rattle.nm_history.specs.declared.transition.Move.TheVariants.{Opens}
@@ -23,3 +23,14 @@ LegalMoves type number (first ∷ list) =
 abbrev pub end_of : {L : Type 0} → GatedStripe L → List (Transition L) → GatedStripe L
 end_of from [] = from
 end_of from (t ∷ list) = end_of t.to list
+
+-- where they lead, if there are any
+abbrev pub last_of : {L : Type 0} → List (Transition L) → Option (GatedStripe L)
+last_of [] = None
+last_of (first ∷ list) = Some (end_of first.to list)
+
+-- the transitions are the history of the stripe of this number, and it is this stripe now
+pub record LeadsTo {L : Type 0} (type : LegType L) (number : ℕ) (list : List (Transition L))
+    (now : GatedStripe L) : Type 0 where
+  pub legal : LegalMoves type number list
+  pub last : last_of list ≡ Some now

@@ -1,14 +1,18 @@
--- What follows of a history: its operations act on one array from each opening on.
+-- What follows of a history: it goes on by any move from where it leads, and its operations act on
+-- one array from each opening on.
 use Rattle.std.specs.Prelude.{◌≡◌, ℕ, List, [], ◌∷◌, ◌++◌}
 use Rattle.nm_leg.specs.Leg.{LegType}
+use Rattle.nm_rules.specs.Invariant.{Keeps}
 use Rattle.nm_rules.specs.Sound.{IsSound}
 use Rattle.nm_stripe.specs.Run.{ActOnOneArray, NoneHalted}
 use Rattle.nm_stripe.specs.declared.answer.Answer.{Answer}
 use Rattle.nm_stripe.specs.declared.step.Step.{Step}
+use Rattle.nm_gate.specs.declared.gated_stripe.GatedStripe.{GatedStripe}
 use Rattle.nm_history.specs.declared.transition.Move.{Move}
 use Rattle.nm_history.specs.declared.transition.Move.TheVariants.{Does, Loses, Opens}
 use Rattle.nm_history.specs.declared.transition.Transition.{Transition}
-use Rattle.nm_history.specs.History.{LegalMoves, end_of}
+use Rattle.nm_history.specs.History.{LeadsTo, LegalMoves, end_of}
+use Rattle.nm_history.specs.Moves.{IsOpening, MoveOf}
 
 -- the step that a move is, if it is one
 abbrev pub steps_in : {L : Type 0} → Move L → List (Step L)
@@ -44,6 +48,22 @@ IsNoOpening move = Unit {0}
 abbrev pub All : {L : Type 0} → (Move L → Type 0) → List (Transition L) → Type 0
 All is [] = Unit {0}
 All is (t ∷ list) = is t.made × All is list
+
+-- A history begins with an opening, goes on by each move from where it leads, and leads to one
+-- stripe, which is the one of its number and, where no leg lost power, keeps what every stripe does.
+pub record HistoriesGoOn {L : Type 0} (type : LegType L) : Type 0 where
+  pub begins : (number : ℕ) (first : Transition L)
+      → first.made ≡ Opens → IsOpening type first.to.stripe
+      → first.to.stripe.place.stripe ≡ number → LeadsTo type number (first ∷ []) first.to
+  pub goes_on : (number : ℕ) (list : List (Transition L)) (now : GatedStripe L) (t : Transition L)
+      → LeadsTo type number list now → MoveOf type t.made now t.to
+      → LeadsTo type number (list ++ t ∷ []) t.to
+  pub one_end : (number : ℕ) (list : List (Transition L)) (now other : GatedStripe L)
+      → LeadsTo type number list now → LeadsTo type number list other → now ≡ other
+  pub number_is : (number : ℕ) (list : List (Transition L)) (now : GatedStripe L)
+      → LeadsTo type number list now → now.stripe.place.stripe ≡ number
+  pub keeps : (number : ℕ) (list : List (Transition L)) (now : GatedStripe L)
+      → LeadsTo type number list now → All IsNoLoss list → Keeps type now.stripe
 
 -- Without losses each stripe of a history is sound, and from any of them on, until the stripe opens
 -- anew, the operations of the steps act on one array.

@@ -1,13 +1,9 @@
 -- What each move does to a stripe and to what the durable superblock may say of it.
-use Rattle.std.specs.Prelude.{◌≡◌, ℕ, ◌^◌, true, false, List, [], Option, None, Some, is_some}
-use Rattle.std.specs.Prelude.{slice_get}
-use Rattle.nm_choice.specs.declared.leg_state.LegState.TheVariants as state
-use Rattle.nm_leg.specs.Leg.{Leg, LegType, blocks_of}
-use Rattle.nm_replay.specs.Array.{Array}
+use Rattle.std.specs.Prelude.{◌≡◌, ℕ, ◌^◌, true, false, [], Option, None, Some, slice_get}
+use Rattle.nm_leg.specs.Leg.{Leg, LegType}
 use Rattle.nm_rules.specs.Invariant.{Keeps}
 use Rattle.nm_rules.specs.Losing.{with_part}
 use Rattle.nm_rules.specs.Opening.{opened}
-use Rattle.nm_rules.specs.RunCalls.{ReadsRunAt}
 use Rattle.nm_rules.specs.State.{StripeState, is_out, leg_state, next_number}
 use Rattle.nm_stripe.specs.Run.{MayBeAsked, StepOf}
 use Rattle.nm_stripe.specs.declared.answer.Answer.{Answer}
@@ -16,6 +12,7 @@ use Rattle.nm_stripe.specs.declared.step.Step.TheVariants.{Attach, Return}
 use Rattle.nm_gate.specs.declared.gated_stripe.GatedStripe.{GatedStripe}
 use Rattle.nm_gate.specs.Durable.{Durable, is_named}
 use Rattle.nm_gate.specs.Gate.{IsAllowed}
+use Rattle.nm_gate.specs.Looking.{LooksAt}
 use Rattle.nm_gate.specs.Moves.{Unmarks}
 use Rattle.nm_gate.specs.Returning.{suspects}
 use Rattle.nm_gate.specs.Saves.{Resaves}
@@ -61,20 +58,6 @@ pub record DoesStep {L : Type 0} (type : LegType L) (step : Step L) (answer : An
   pub does : StepOf type step answer old.stripe new.stripe
   pub durable : new.durable ≡ old.durable
 
--- the blocks that a look found
-abbrev pub found_blocks : Option (List ℕ) → Array
-found_blocks None = []
-found_blocks (Some bytes) = blocks_of bytes
-
--- a leg in sync is read, and nothing else changes
-pub record LooksAt {L : Type 0} (type : LegType L) (leg block : ℕ) (found : Option (List ℕ))
-    (old new : GatedStripe L) : Type 0 where
-  pub in_sync : leg_state leg old.stripe ≡ state.InSync
-  pub reads : ReadsRunAt type (is_some found) leg block (found_blocks found)
-      old.stripe.legs new.stripe.legs
-  pub stripe : new.stripe ≡ record old.stripe { legs = new.stripe.legs }
-  pub durable : new.durable ≡ old.durable
-
 -- there is a superblock before and after, and what it may say changes so
 abbrev pub Changes : (Durable → Durable → Type 0) → (old new : Option Durable) → Type 0
 Changes so (Some d) (Some e) = so d e
@@ -101,7 +84,8 @@ pub record LosesPower {L : Type 0} (model : L → Leg) (leg : ℕ) (old new : Ga
 abbrev pub MoveOf : {L : Type 0} → LegType L → Move L → (old new : GatedStripe L) → Type 0
 MoveOf type Opens old new = OpensAgain type old new
 MoveOf type (Does step answer) old new = DoesStep type step answer old new
-MoveOf type (Looks leg block found) old new = LooksAt type leg block found old new
+MoveOf type (Looks leg block found) old new =
+    LooksAt type leg block found old.stripe new.stripe × (new.durable ≡ old.durable)
 MoveOf type Saves old new = ChangesBounds (Resaves old.stripe) old new
 MoveOf type Clears old new = ChangesBounds (Unmarks type.model old.stripe) old new
 MoveOf type (Loses leg) old new = LosesPower type.model leg old new
