@@ -19,8 +19,9 @@ use Rattle.nm_history.specs.declared.transition.Move.TheVariants.{Opens, Does, L
 use Rattle.nm_history.specs.declared.transition.Transition.{Transition}
 use Rattle.nm_history.specs.History.{Follow, end_of}
 use Rattle.nm_history.specs.Laws.{All, HistoryActs, IsNoLoss, IsNoOpening, answers_in, answers_of, steps_in, steps_of}
+use Rattle.nm_history.specs.Lost.{lost_after}
 use Rattle.nm_history.specs.Moves.{MoveOf}
-use Rattle.nm_history.proofs.Lists.{all-back, all-keep, legal-follow, legal-keeps, move-keeps}
+use Rattle.nm_history.proofs.Lists.{NoneLost, all-keep, does-step, legal-whole, move-keeps, none-after}
 
 module _ {L : Type 0} (type : LegType L) (is_honest : IsTrue type.honest) where
   -- nothing of the stripe changes
@@ -28,31 +29,30 @@ module _ {L : Type 0} (type : LegType L) (is_honest : IsTrue type.honest) where
   same-acts old new k is = subst (λ (s : StripeState L). Acts type.model old s []) (sym is) (acts-none type.model old k.numbers.most)
 
   -- a move in front of others
-  move-acts : (move : Move L) (old mid : GatedStripe L) (new : StripeState L) (steps : List (Step L)) (answers : List (Answer L)) → Keeps type old.stripe → IsNoLoss move → IsNoOpening move → MoveOf type move old mid
+  move-acts : (lost : ℕ → Type 0) (move : Move L) (old mid : GatedStripe L) (new : StripeState L) (steps : List (Step L)) (answers : List (Answer L)) → Keeps type old.stripe → NoneLost lost → IsNoLoss move → IsNoOpening move → MoveOf type lost move old mid
       → NoneHalted (answers_in move ++ answers) → (NoneHalted answers → ActOnOneArray type.model steps answers mid.stripe new) → ActOnOneArray type.model (steps_in move ++ steps) (answers_in move ++ answers) old.stripe new
-  move-acts Opens old mid new steps answers k whole stays is goes rest = absurd stays
-  move-acts (Does step answer) old mid new steps answers k whole stays is goes rest =
+  move-acts lost Opens old mid new steps answers k none whole stays is goes rest = absurd stays
+  move-acts lost (Does step answer) old mid new steps answers k none whole stays is goes rest =
       let first = none-first answer answers goes in
-      act-front type.model old.stripe mid.stripe new step answer steps answers (step-explained type old.stripe mid.stripe k is_honest step answer is.asked first.0 is.does) (rest first.1)
-  move-acts (Looks leg block found) old mid new steps answers k whole stays is goes rest =
+      let does = does-step type lost step answer old mid none is in
+      act-front type.model old.stripe mid.stripe new step answer steps answers (step-explained type old.stripe mid.stripe k is_honest step answer does.asked first.0 does.does) (rest first.1)
+  move-acts lost (Looks leg block found) old mid new steps answers k none whole stays is goes rest =
       unseen-front type.model old.stripe mid.stripe new steps answers (looked-acts type leg block found old.stripe mid.stripe is.0 is_honest k) (rest goes)
-  move-acts Saves old mid new steps answers k whole stays is goes rest = unseen-front type.model old.stripe mid.stripe new steps answers (same-acts old.stripe mid.stripe k is.stripe) (rest goes)
-  move-acts Clears old mid new steps answers k whole stays is goes rest = unseen-front type.model old.stripe mid.stripe new steps answers (same-acts old.stripe mid.stripe k is.stripe) (rest goes)
-  move-acts (Loses leg) old mid new steps answers k whole stays is goes rest = absurd whole
+  move-acts lost Saves old mid new steps answers k none whole stays is goes rest = unseen-front type.model old.stripe mid.stripe new steps answers (same-acts old.stripe mid.stripe k is.stripe) (rest goes)
+  move-acts lost Clears old mid new steps answers k none whole stays is goes rest = unseen-front type.model old.stripe mid.stripe new steps answers (same-acts old.stripe mid.stripe k is.stripe) (rest goes)
+  move-acts lost (Loses leg) old mid new steps answers k none whole stays is goes rest = absurd whole
 
-  all-act : (from : GatedStripe L) (list : List (Transition L)) → Keeps type from.stripe → All IsNoLoss list → All IsNoOpening list → Follow type from list → NoneHalted (answers_of list)
+  all-act : (lost : ℕ → Type 0) (from : GatedStripe L) (list : List (Transition L)) → Keeps type from.stripe → NoneLost lost → All IsNoLoss list → All IsNoOpening list → Follow type lost from list → NoneHalted (answers_of list)
       → ActOnOneArray type.model (steps_of list) (answers_of list) from.stripe (end_of from list).stripe
-  all-act from [] k whole stays follow goes = none-acts type.model from.stripe k.numbers.most
-  all-act from (t ∷ list) k whole stays follow goes =
-      move-acts t.made from t.to (end_of t.to list).stripe (steps_of list) (answers_of list) k whole.0 stays.0 follow.0 goes
-      (λ more. all-act t.to list (move-keeps type t.made from t.to k whole.0 follow.0) whole.1 stays.1 follow.1 more)
+  all-act lost from [] k none whole stays follow goes = none-acts type.model from.stripe k.numbers.most
+  all-act lost from (t ∷ list) k none whole stays follow goes =
+      move-acts lost t.made from t.to (end_of t.to list).stripe (steps_of list) (answers_of list) k none whole.0 stays.0 follow.0 goes
+      (λ more. all-act (lost_after t.made lost) t.to list (move-keeps type lost t.made from t.to k none whole.0 follow.0) (none-after t.made lost none whole.0) whole.1 stays.1 follow.1 more)
 
 pub history-acts : {L : Type 0} (type : LegType L) → IsTrue type.honest → HistoryActs type
 history-acts type is_honest number before list from legal whole stays =
-    let k = legal-keeps type number before from list legal whole in
-    let follow = legal-follow type number before from list legal in
-    let rest = all-back IsNoLoss before from list whole in
+    let w = legal-whole type number before from list legal whole in
     record {
-      sound = keeps-sound type (end_of from.to list).stripe (all-keep type from.to list k rest follow);
-      acts = λ goes. all-act type is_honest from.to list k rest stays follow goes;
+      sound = keeps-sound type (end_of from.to list).stripe (all-keep type w.lost from.to list w.keeps w.none w.whole w.follow);
+      acts = λ goes. all-act type is_honest w.lost from.to list w.keeps w.none w.whole stays w.follow goes;
     }

@@ -1,4 +1,5 @@
 pub mod Acting
+pub mod Covered
 pub mod Lists
 pub mod Restarting
-pub mod Worked
+pub mod Told

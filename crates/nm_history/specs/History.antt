@@ -1,23 +1,29 @@
 -- A history of a stripe: moves, each with the stripe and its gate as it left them.
 use Rattle.std.specs.Prelude.{◌≡◌, ℕ, List, [], ◌∷◌, Option, None, Some}
 use Rattle.nm_leg.specs.Leg.{LegType}
+use Rattle.nm_rules.specs.Invariant.{Keeps}
 use Rattle.nm_gate.specs.declared.gated_stripe.GatedStripe.{GatedStripe}
 use Rattle.nm_history.specs.declared.transition.Move.TheVariants.{Opens}
 use Rattle.nm_history.specs.declared.transition.Transition.{Transition}
-use Rattle.nm_history.specs.Moves.{IsOpening, MoveOf}
+use Rattle.nm_history.specs.Lost.{lost_after, none_lost}
+use Rattle.nm_history.specs.Moves.{MoveOf}
 
--- the first of the transitions leaves from here, and each other from where the one before led
-abbrev pub Follow : {L : Type 0} → LegType L → GatedStripe L → List (Transition L) → Type 0
-Follow type from [] = Unit {0}
-Follow type from (t ∷ list) = MoveOf type t.made from t.to × Follow type t.to list
+-- the first of the transitions leaves from here, where these legs had lost power, and each other
+-- from where the one before led
+abbrev pub Follow : {L : Type 0} → LegType L → (lost : ℕ → Type 0) → GatedStripe L
+    → List (Transition L) → Type 0
+Follow type lost from [] = Unit {0}
+Follow type lost from (t ∷ list) =
+    MoveOf type lost t.made from t.to × Follow type (lost_after t.made lost) t.to list
 
--- The transitions are the history of the stripe of this number: the first opens it, and each other
--- leaves from where the one before led.
+-- The transitions are the history of the stripe of this number: by the first it comes under its
+-- lock, as a stripe that keeps what every stripe keeps, and each other leaves from where the one
+-- before led.
 abbrev pub LegalMoves : {L : Type 0} → LegType L → ℕ → List (Transition L) → Type 0
 LegalMoves type number [] = Unit {0}
 LegalMoves type number (first ∷ list) =
-    (first.made ≡ Opens) × IsOpening type first.to.stripe
-    × (first.to.stripe.place.stripe ≡ number) × Follow type first.to list
+    (first.made ≡ Opens) × Keeps type first.to.stripe
+    × (first.to.stripe.place.stripe ≡ number) × Follow type none_lost first.to list
 
 -- where the transitions lead from here
 abbrev pub end_of : {L : Type 0} → GatedStripe L → List (Transition L) → GatedStripe L

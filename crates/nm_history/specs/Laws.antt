@@ -1,9 +1,10 @@
 -- What follows of a history: it goes on by any move from where it leads, and its operations act on
 -- one array from each opening on.
-use Rattle.std.specs.Prelude.{◌≡◌, ℕ, List, [], ◌∷◌, ◌++◌}
+use Rattle.std.specs.Prelude.{◌≡◌, ℕ, true, List, [], ◌∷◌, ◌++◌}
 use Rattle.nm_leg.specs.Leg.{LegType}
 use Rattle.nm_rules.specs.Invariant.{Keeps}
 use Rattle.nm_rules.specs.Sound.{IsSound}
+use Rattle.nm_rules.specs.State.{is_out, leg_state}
 use Rattle.nm_stripe.specs.Run.{ActOnOneArray, NoneHalted}
 use Rattle.nm_stripe.specs.declared.answer.Answer.{Answer}
 use Rattle.nm_stripe.specs.declared.step.Step.{Step}
@@ -12,7 +13,8 @@ use Rattle.nm_history.specs.declared.transition.Move.{Move}
 use Rattle.nm_history.specs.declared.transition.Move.TheVariants.{Does, Loses, Opens}
 use Rattle.nm_history.specs.declared.transition.Transition.{Transition}
 use Rattle.nm_history.specs.History.{LeadsTo, LegalMoves, end_of}
-use Rattle.nm_history.specs.Moves.{IsOpening, MoveOf}
+use Rattle.nm_history.specs.Lost.{none_lost}
+use Rattle.nm_history.specs.Moves.{MoveOf}
 
 -- the step that a move is, if it is one
 abbrev pub steps_in : {L : Type 0} → Move L → List (Step L)
@@ -50,13 +52,13 @@ All is [] = Unit {0}
 All is (t ∷ list) = is t.made × All is list
 
 -- A history begins with an opening, goes on by each move from where it leads, and leads to one
--- stripe, which is the one of its number and, where no leg lost power, keeps what every stripe does.
+-- stripe: the one of its number, which keeps what every stripe does where no leg lost power.
 pub record HistoriesGoOn {L : Type 0} (type : LegType L) : Type 0 where
   pub begins : (number : ℕ) (first : Transition L)
-      → first.made ≡ Opens → IsOpening type first.to.stripe
+      → first.made ≡ Opens → Keeps type first.to.stripe
       → first.to.stripe.place.stripe ≡ number → LeadsTo type number (first ∷ []) first.to
   pub goes_on : (number : ℕ) (list : List (Transition L)) (now : GatedStripe L) (t : Transition L)
-      → LeadsTo type number list now → MoveOf type t.made now t.to
+      → LeadsTo type number list now → MoveOf type none_lost t.made now t.to
       → LeadsTo type number (list ++ t ∷ []) t.to
   pub one_end : (number : ℕ) (list : List (Transition L)) (now other : GatedStripe L)
       → LeadsTo type number list now → LeadsTo type number list other → now ≡ other
@@ -64,6 +66,17 @@ pub record HistoriesGoOn {L : Type 0} (type : LegType L) : Type 0 where
       → LeadsTo type number list now → now.stripe.place.stripe ≡ number
   pub keeps : (number : ℕ) (list : List (Transition L)) (now : GatedStripe L)
       → LeadsTo type number list now → All IsNoLoss list → Keeps type now.stripe
+
+-- a loss of this leg's power: nothing shows of it
+abbrev pub loss : {L : Type 0} → ℕ → GatedStripe L → Transition L
+loss leg now = record { made = Loses leg; to = now }
+
+-- And a loss of a leg's power may be put in wherever the leg is out.
+abbrev pub LossesMayStand : {L : Type 0} → LegType L → Type 0
+LossesMayStand {L} type =
+    (number : ℕ) (before later : List (Transition L)) (t : Transition L) (leg : ℕ)
+    → LegalMoves type number (before ++ t ∷ later) → is_out (leg_state leg t.to.stripe) ≡ true
+    → LegalMoves type number (before ++ t ∷ loss leg t.to ∷ later)
 
 -- Without losses each stripe of a history is sound, and from any of them on, until the stripe opens
 -- anew, the operations of the steps act on one array.

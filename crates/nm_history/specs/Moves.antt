@@ -1,10 +1,9 @@
 -- What each move does to a stripe and to what the durable superblock may say of it.
-use Rattle.std.specs.Prelude.{◌≡◌, ℕ, ◌^◌, true, false, [], Option, None, Some, slice_get}
-use Rattle.nm_leg.specs.Leg.{Leg, LegType}
+use Rattle.std.specs.Prelude.{◌≡◌, ◌⊎◌, ℕ, ◌^◌, true, Option, None, Some}
+use Rattle.nm_leg.specs.Leg.{LegType}
 use Rattle.nm_rules.specs.Invariant.{Keeps}
-use Rattle.nm_rules.specs.Losing.{with_part}
 use Rattle.nm_rules.specs.Opening.{opened}
-use Rattle.nm_rules.specs.State.{StripeState, is_out, leg_state, next_number}
+use Rattle.nm_rules.specs.State.{is_out, leg_state, next_number}
 use Rattle.nm_stripe.specs.Run.{MayBeAsked, StepOf}
 use Rattle.nm_stripe.specs.declared.answer.Answer.{Answer}
 use Rattle.nm_stripe.specs.declared.step.Step.{Step}
@@ -16,17 +15,10 @@ use Rattle.nm_gate.specs.Looking.{LooksAt}
 use Rattle.nm_gate.specs.Moves.{Unmarks}
 use Rattle.nm_gate.specs.Returning.{suspects}
 use Rattle.nm_gate.specs.Saves.{Resaves}
-use Rattle.nm_losses.specs.Crashing.{CrashesTo}
 use Rattle.nm_history.specs.declared.transition.Move.{Move}
 use Rattle.nm_history.specs.declared.transition.Move.TheVariants.{Opens, Does, Looks, Saves}
 use Rattle.nm_history.specs.declared.transition.Move.TheVariants.{Clears, Loses}
-
--- a stripe as it opens: it keeps what every stripe keeps, runs, and has done nothing yet
-pub record IsOpening {L : Type 0} (type : LegType L) (stripe : StripeState L) : Type 0 where
-  pub keeps : Keeps type stripe
-  pub runs : stripe.stopped ≡ false
-  pub no_records : stripe.records ≡ []
-  pub no_entries : stripe.total ≡ 0
+use Rattle.nm_history.specs.Lost.{IsReturnOf, Recovers}
 
 -- the superblock, where there is one, may call no leg in sync but this
 abbrev pub NamesOnly : ℕ → Option Durable → Type 0
@@ -38,7 +30,7 @@ NamesOnly leg (Some d) = (other : ℕ) → is_named other d ≡ true → other �
 pub record OpensAgain {L : Type 0} (type : LegType L) (old new : GatedStripe L) : Type 0 where
   pub stopped : old.stripe.stopped ≡ true
   pub alone : NamesOnly old.stripe.master old.durable
-  pub opening : IsOpening type new.stripe
+  pub keeps : Keeps type new.stripe
   pub stripe : new.stripe ≡ opened old.stripe.place new.stripe.legs (2 ^ old.stripe.master)
       (next_number old.stripe) new.stripe.policy
   pub durable : new.durable ≡ old.durable
@@ -69,23 +61,15 @@ pub record ChangesBounds {L : Type 0} (so : Durable → Durable → Type 0) (old
   pub stripe : new.stripe ≡ old.stripe
   pub durable : Changes so old.durable new.durable
 
--- a leg that is out loses power, and has what that leaves of it
-pub record LosesPower {L : Type 0} (model : L → Leg) (leg : ℕ) (old new : GatedStripe L)
-    : Type 0 where
-  pub held : L
-  pub part : L
-  pub out : is_out (leg_state leg old.stripe) ≡ true
-  pub was : slice_get old.stripe.legs leg ≡ Some held
-  pub crash : CrashesTo model held part
-  pub stripe : new.stripe ≡ with_part old.stripe leg part
-  pub durable : new.durable ≡ old.durable
-
--- the move leads from one to the other
-abbrev pub MoveOf : {L : Type 0} → LegType L → Move L → (old new : GatedStripe L) → Type 0
-MoveOf type Opens old new = OpensAgain type old new
-MoveOf type (Does step answer) old new = DoesStep type step answer old new
-MoveOf type (Looks leg block found) old new =
+-- the move leads from one to the other, where these legs had lost power
+abbrev pub MoveOf : {L : Type 0} → LegType L → (lost : ℕ → Type 0) → Move L
+    → (old new : GatedStripe L) → Type 0
+MoveOf type lost Opens old new = OpensAgain type old new
+MoveOf type lost (Does step answer) old new =
+    DoesStep type step answer old new
+    ⊎ (IsReturnOf lost step × Recovers type step answer old new)
+MoveOf type lost (Looks leg block found) old new =
     LooksAt type leg block found old.stripe new.stripe × (new.durable ≡ old.durable)
-MoveOf type Saves old new = ChangesBounds (Resaves old.stripe) old new
-MoveOf type Clears old new = ChangesBounds (Unmarks type.model old.stripe) old new
-MoveOf type (Loses leg) old new = LosesPower type.model leg old new
+MoveOf type lost Saves old new = ChangesBounds (Resaves old.stripe) old new
+MoveOf type lost Clears old new = ChangesBounds (Unmarks type.model old.stripe) old new
+MoveOf type lost (Loses leg) old new = (is_out (leg_state leg old.stripe) ≡ true) × (new ≡ old)

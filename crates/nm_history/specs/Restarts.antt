@@ -1,13 +1,14 @@
 -- What a history is to the laws of nm_gate and nm_losses, which speak of crashes and flushes.
-use Rattle.std.specs.Prelude.{◌≡◌, ℕ, List, [], ◌∷◌, ◌++◌, Option, None, Some, IsSome, false, map}
+use Rattle.std.specs.Prelude.{ℕ, List, [], ◌∷◌, ◌++◌, Option, None, Some, IsSome, false}
 use Rattle.nm_leg.specs.Leg.{LegType}
 use Rattle.nm_gate.specs.declared.gated_stripe.GatedStripe.{GatedStripe}
 use Rattle.nm_gate.specs.Durable.{Durable}
 use Rattle.nm_gate.specs.Moves as gate
-use Rattle.nm_gate.specs.Moves.{Gated, GatedRuns}
-use Rattle.nm_losses.specs.Gated.{Goes, LossyGatedRuns}
+use Rattle.nm_gate.specs.Moves.{AllLeave, Gated, GatedRuns, SomeSyncs}
+use Rattle.nm_losses.specs.Gated.{GatedMove, LossyGatedRuns}
 use Rattle.nm_losses.specs.Moves as losses
 use Rattle.nm_losses.specs.Moves.{LossyRuns}
+use Rattle.nm_losses.specs.Survive.{gate_moves_of as among}
 use Rattle.nm_history.specs.declared.transition.Move.{Move}
 use Rattle.nm_history.specs.declared.transition.Move.TheVariants.{Does, Looks, Saves, Clears}
 use Rattle.nm_history.specs.declared.transition.Transition.{Transition}
@@ -54,16 +55,31 @@ abbrev pub stripe_moves_of : {L : Type 0} → List (Transition L) → List (loss
 stripe_moves_of [] = []
 stripe_moves_of (t ∷ list) = stripe_moves_in t.made ++ stripe_moves_of list
 
--- From a stripe of the history on, until it opens anew, and without losses, what is done is moves
--- of which the laws speak: those of a stripe behind the gate, where there is a superblock, among
--- which a leg may recover that lost power; and always those of the stripe alone.
+-- Moves of which nm_losses' laws speak, that lead from one to the other: of these moves of the gate
+-- all but the returns of legs that recover, so that they begin writes of no other block, and sync
+-- the same legs.
+pub record LossyMoves {L : Type 0} (type : LegType L) (moves : List (gate.Move L))
+    (old new : Gated L) : Type 0 where
+  pub lossy : List (GatedMove L)
+  pub runs : LossyGatedRuns type lossy old new
+  pub leaves : (block : ℕ) → AllLeave block moves → AllLeave block (among lossy)
+  pub syncs : (leg : ℕ) → SomeSyncs leg moves → SomeSyncs leg (among lossy)
+
+-- From a stripe of the history with a superblock on, until it opens anew, what is done is such
+-- moves, whichever legs lose power.
+abbrev pub HistoryOfLosses : {L : Type 0} → LegType L → Type 0
+HistoryOfLosses {L} type =
+    (number : ℕ) (before list : List (Transition L)) (from : Transition L)
+    → LegalMoves type number (before ++ from ∷ list) → All IsNoOpening list
+    → IsSome from.to.durable → LossyMoves type (gate_moves_of list)
+    (gated_of from.to) (gated_of (end_of from.to list))
+
+-- Without losses it is moves of a stripe behind the gate, where there is a superblock; and always
+-- moves of the stripe alone.
 pub record RestartsFrom {L : Type 0} (type : LegType L) (from : Transition L)
     (list : List (Transition L)) : Type 0 where
   pub gated : IsSome from.to.durable
       → GatedRuns type (gate_moves_of list) (gated_of from.to) (gated_of (end_of from.to list))
-  pub lossy : IsSome from.to.durable
-      → LossyGatedRuns type (map Goes (gate_moves_of list))
-      (gated_of from.to) (gated_of (end_of from.to list))
   pub alone : LossyRuns type (stripe_moves_of list)
       from.to.stripe (end_of from.to list).stripe
 
@@ -71,5 +87,5 @@ pub record RestartsFrom {L : Type 0} (type : LegType L) (from : Transition L)
 abbrev pub HistoryRestarts : {L : Type 0} → LegType L → Type 0
 HistoryRestarts {L} type =
     (number : ℕ) (before list : List (Transition L)) (from : Transition L)
-    → LegalMoves type number (before ++ from ∷ list)
-    → All IsNoLoss list → All IsNoOpening list → RestartsFrom type from list
+    → LegalMoves type number (before ++ from ∷ list) → All IsNoLoss (before ++ from ∷ list)
+    → All IsNoOpening list → RestartsFrom type from list

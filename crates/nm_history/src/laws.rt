@@ -1,7 +1,9 @@
 //! What follows of each legal list of moves.
 ghost use Rattle.std.specs.Prelude.{IsTrue};
-ghost use Rattle.nm_history.specs.Laws.{HistoriesGoOn, HistoryActs};
-ghost use Rattle.nm_history.specs.Restarts.{HistoryRestarts};
+ghost use Rattle.nm_history.specs.Laws.{HistoriesGoOn, HistoryActs, LossesMayStand};
+ghost use Rattle.nm_history.specs.LossyActs.{HistoryActsInLosses};
+ghost use Rattle.nm_history.specs.Restarts.{HistoryOfLosses, HistoryRestarts};
+ghost use Rattle.nm_history.specs.Telling.{ReadsAreToldAfterwards};
 ghost use Rattle.nm_leg.specs.Leg.{leg_type};
 
 use nm_leg::LegPart;
@@ -11,12 +13,32 @@ pub fn histories_go_on<L: LegPart>()
     ensures { HistoriesGoOn (leg_type L.model L.honest) }
 {}
 
+/// A loss of a leg's power may be put into a history wherever the leg is out.
+pub fn losses_may_stand<L: LegPart>()
+    ensures { LossesMayStand (leg_type L.model L.honest) }
+{}
+
 /// From each opening on, a history's operations act on one array.
 pub fn history_acts<L: LegPart>()
     ensures { IsTrue L.honest → HistoryActs (leg_type L.model L.honest) }
 {}
 
+/// So they do where legs lose power, as far as the gate's marks cover what these may lose.
+pub fn history_acts_in_losses<L: LegPart>()
+    ensures { IsTrue L.honest → HistoryActsInLosses (leg_type L.model L.honest) }
+{}
+
 /// What a history does is moves of which the laws on crashes and flushes speak.
 pub fn history_restarts<L: LegPart>()
     ensures { HistoryRestarts (leg_type L.model L.honest) }
+{}
+
+/// With losses, moves of which the laws on legs that lose power speak.
+pub fn history_of_losses<L: LegPart>()
+    ensures { HistoryOfLosses (leg_type L.model L.honest) }
+{}
+
+/// A read may be told once it is done, with the room as it came back.
+pub fn reads_are_told_afterwards<L: LegPart>()
+    ensures { ReadsAreToldAfterwards (leg_type L.model L.honest) }
 {}

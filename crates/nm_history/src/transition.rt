@@ -17,7 +17,7 @@ pub enum Move<L> {
     Saves,
     /// Marks are cleared, where the legs are equal.
     Clears,
-    /// This leg, which is out, loses power. No code notes it: a leg's value changes by its calls.
+    /// This leg, which is out, loses power. No code notes it: what it lost shows once it is back.
     Loses(u8),
 }
 
