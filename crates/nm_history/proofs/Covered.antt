@@ -1,6 +1,6 @@
 -- Legs lose power, and what they may lack is marked: so a stripe keeps what every stripe keeps when
 -- they come back, and its operations act on one array.
-use Rattle.std.proofs.Common.{◌≡◌, ⊎_elim, ℕ, true, IsTrue, List, [], ◌∷◌, ◌++◌, Option, None, Some, IsSome, is_some, length, refl, sym, ap, ◌∙◌, subst}
+use Rattle.std.proofs.Common.{◌≡◌, ⊎_elim, ℕ, IsTrue, List, [], ◌∷◌, ◌++◌, Option, None, Some, IsSome, is_some, length, refl, sym, ap, ◌∙◌, subst}
 use Rattle.nm_leg.specs.Leg.{IsDurableElsewhere, LegType}
 use Rattle.nm_rules.specs.Acts.{Acts}
 use Rattle.nm_rules.specs.Invariant.{Keeps}

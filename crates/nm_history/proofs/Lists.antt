@@ -22,7 +22,7 @@ use Rattle.nm_history.specs.Lost.{IsReturnOf, Recovers, lost_after, none_lost}
 use Rattle.nm_history.specs.Moves.{DoesStep, MoveOf}
 
 -- the legs that had lost power once all of these moves were made
-abbrev lost_by : {L : Type 0} → (ℕ → Type 0) → List (Transition L) → ℕ → Type 0
+abbrev pub lost_by : {L : Type 0} → (ℕ → Type 0) → List (Transition L) → ℕ → Type 0
 lost_by lost [] = lost
 lost_by lost (t ∷ list) = lost_by (lost_after t.made lost) list
 

@@ -17,7 +17,6 @@ use Rattle.nm_losses.specs.Gated as lossy
 use Rattle.nm_losses.specs.Gated.{AttachesNone, Goes, LossyGatedRuns}
 use Rattle.nm_losses.specs.Moves as losses
 use Rattle.nm_losses.specs.Moves.{IsNoAttach, LossyRuns}
-use Rattle.nm_losses.specs.Survive.{gate_moves_of as among}
 use Rattle.nm_history.specs.declared.transition.Move.{Move}
 use Rattle.nm_history.specs.declared.transition.Move.TheVariants.{Opens, Does, Looks, Saves, Clears, Loses}
 use Rattle.nm_history.specs.declared.transition.Transition.{Transition}
@@ -62,7 +61,7 @@ module _ {L : Type 0} (type : LegType L) where
   recovers-durable step answer old new is = absurd is
 
   -- there is a superblock still
-  move-some : (lost : ℕ → Type 0) (move : Move L) (old new : GatedStripe L) → IsNoOpening move → IsSome old.durable → MoveOf type lost move old new → IsSome new.durable
+  pub move-some : (lost : ℕ → Type 0) (move : Move L) (old new : GatedStripe L) → IsNoOpening move → IsSome old.durable → MoveOf type lost move old new → IsSome new.durable
   move-some lost Opens old new stays has is = absurd stays
   move-some lost (Does step answer) old new stays has is =
       subst (λ (o : Option Durable). IsSome o) (sym (⊎_elim (λ does. does.durable) (λ recovers. recovers-durable step answer old new recovers.1) is)) has
@@ -123,7 +122,7 @@ module _ {L : Type 0} (type : LegType L) where
       goes-front (gate.Clears (bounds_of new.durable)) moves (gated_of old) (gated_of new) last (changed _ old.durable new.durable is.durable, is.stripe, refl) tt rest
   move-front lost (Loses leg) moves old new last stays has is rest = subst (λ (g : GatedStripe L). LossyMoves type moves (gated_of g) last) is.1 rest
 
-  all-lossy : (lost : ℕ → Type 0) (from : GatedStripe L) (list : List (Transition L)) → All IsNoOpening list → IsSome from.durable → Follow type lost from list → LossyMoves type (gate_moves_of list) (gated_of from) (gated_of (end_of from list))
+  pub all-lossy : (lost : ℕ → Type 0) (from : GatedStripe L) (list : List (Transition L)) → All IsNoOpening list → IsSome from.durable → Follow type lost from list → LossyMoves type (gate_moves_of list) (gated_of from) (gated_of (end_of from list))
   all-lossy lost from [] stays has follow = record { lossy = []; runs = refl; leaves = λ b all. tt; syncs = λ leg some. some }
   all-lossy lost from (t ∷ list) stays has follow =
       move-front lost t.made (gate_moves_of list) from t.to (gated_of (end_of t.to list)) stays.0 has follow.0

@@ -8,7 +8,7 @@ use Rattle.nm_rules.specs.State.{StripeState}
 use Rattle.nm_stripe.specs.declared.answer.Answer.{Answer}
 use Rattle.nm_stripe.specs.declared.answer.Answer.TheVariants.{LegLost, Refused, Value}
 use Rattle.nm_stripe.specs.declared.answer.Handed.{Handed}
-use Rattle.nm_stripe.specs.declared.answer.Handed.TheVariants.{Nothing, Data, Room, Replacement}
+use Rattle.nm_stripe.specs.declared.answer.Handed.TheVariants.{Room}
 use Rattle.nm_stripe.specs.declared.step.Step.TheVariants.{Read}
 use Rattle.nm_stripe.specs.Read.{RefusesRead, ForCause, ForFault}
 use Rattle.nm_stripe.specs.Run.{MayBeAsked, StepOf}

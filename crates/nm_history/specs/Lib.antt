@@ -1,3 +1,4 @@
+pub mod Flushed
 pub mod History
 pub mod Laws
 pub mod LossyActs

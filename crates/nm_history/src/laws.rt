@@ -1,5 +1,6 @@
 //! What follows of each legal list of moves.
 ghost use Rattle.std.specs.Prelude.{IsTrue};
+ghost use Rattle.nm_history.specs.Flushed.{HistoryKeepsFlushed};
 ghost use Rattle.nm_history.specs.Laws.{HistoriesGoOn, HistoryActs, LossesMayStand};
 ghost use Rattle.nm_history.specs.LossyActs.{HistoryActsInLosses};
 ghost use Rattle.nm_history.specs.Restarts.{HistoryOfLosses, HistoryRestarts};
@@ -36,6 +37,11 @@ pub fn history_restarts<L: LegPart>()
 /// With losses, moves of which the laws on legs that lose power speak.
 pub fn history_of_losses<L: LegPart>()
     ensures { HistoryOfLosses (leg_type L.model L.honest) }
+{}
+
+/// And what was flushed stays on each leg that the superblock may call in sync.
+pub fn history_keeps_flushed<L: LegPart>()
+    ensures { IsTrue L.honest → HistoryKeepsFlushed (leg_type L.model L.honest) }
 {}
 
 /// A read may be told once it is done, with the room as it came back.
