@@ -36,11 +36,12 @@ use Rattle.nm_history.specs.declared.transition.Transition.{Transition}
 use Rattle.nm_history.specs.History.{Follow, end_of}
 use Rattle.nm_history.specs.Laws.{All, IsNoOpening, answers_in, answers_of, steps_in, steps_of}
 use Rattle.nm_history.specs.Lost.{ComesBack, Recovers, lost_after}
-use Rattle.nm_history.specs.LossyActs.{ActsCovered, HistoryActsInLosses, IsCovered}
+use Rattle.nm_history.specs.LossyActs.{ActsCovered, HistoryActsInLosses, HistoryOfLosses, IsCovered}
 use Rattle.nm_history.specs.Moves.{Changes, DoesStep, MoveOf}
-use Rattle.nm_history.specs.Restarts.{bounds_of, gated_of}
+use Rattle.nm_history.specs.Restarts.{LossyMoves, bounds_of, gate_moves_in, gate_moves_of, gated_of}
 use Rattle.nm_history.proofs.Lists.{legal-end}
-use Rattle.nm_history.proofs.Restarting.{changed, recovers-of, step-is}
+use Rattle.nm_history.proofs.Restarting.{changed, clears-is, move-some, recovers-of, step-is}
+use Rattle.nm_history.proofs.Restarting.{move-front as gate-front}
 
 -- bounds that change were there before
 changed-was : (so : Durable → Durable → Type 0) (o p : Option Durable) → Changes so o p → IsSome o
@@ -146,7 +147,7 @@ module _ {L : Type 0} (type : LegType L) (each : (leg : L) → length (type.mode
   )
   move-front lost Clears old mid new steps answers r stays goes is = (
     quiet-front (gate.Clears (bounds_of mid.durable)) old mid new steps answers r (subst (λ (s : StripeState L). Keeps type s) (sym is.stripe) r.keeps) (λ has. changed-was _ old.durable mid.durable is.durable) tt
-        (λ has. (changed _ old.durable mid.durable is.durable, is.stripe, refl)) (same-acts old.stripe mid.stripe r.keeps is.stripe) Clears refl refl,
+        (λ has. clears-is type is_honest old mid (r.stands has) is) (same-acts old.stripe mid.stripe r.keeps is.stripe) Clears refl refl,
     goes,
   )
   move-front lost (Loses leg) old mid new steps answers r stays goes is = (
@@ -168,3 +169,35 @@ module _ {L : Type 0} (type : LegType L) (each : (leg : L) → length (type.mode
   history-acts-in-losses number before list from legal stays goes r =
       let e = legal-end type number before from list legal in
       all-act e.lost from.to list r stays goes e.follow
+
+  -- what stops none does not halt
+  stop-first : (move : Move L) (d : Durable) (moves : List (gate.Move L)) → NoneStop (gate_moves_in move d ++ moves) → NoneHalted (answers_in move ++ []) × NoneStop moves
+  stop-first Opens d moves goes = (tt, goes)
+  stop-first (Does step answer) d moves goes = goes
+  stop-first (Looks leg block found) d moves goes = (tt, goes)
+  stop-first Saves d moves goes = (tt, goes)
+  stop-first Clears d moves goes = (tt, goes)
+  stop-first (Loses leg) d moves goes = (tt, goes)
+
+  -- moves of which the laws on losses speak, and the stripe in which they end
+  pub record LossyCovered (from : GatedStripe L) (list : List (Transition L)) : Type 0 where
+    pub moves : LossyMoves type (gate_moves_of list) (gated_of from) (gated_of (end_of from list))
+    pub has : IsSome (end_of from list).durable
+    pub covered : IsCovered type (end_of from list)
+
+  pub all-lossy : (lost : ℕ → Type 0) (from : GatedStripe L) (list : List (Transition L)) → All IsNoOpening list → NoneStop (gate_moves_of list) → IsSome from.durable → IsCovered type from → Follow type lost from list → LossyCovered from list
+  all-lossy lost from [] stays goes has r follow = record { moves = record { lossy = []; runs = refl; leaves = λ b all. tt; syncs = λ leg some. some }; has = has; covered = r }
+  all-lossy lost from (t ∷ list) stays goes has r follow =
+      let stops = stop-first t.made (bounds_of t.to.durable) (gate_moves_of list) goes in
+      let first = move-front lost t.made from t.to t.to.stripe [] [] r stays.0 stops.0 follow.0 in
+      let rest = all-lossy (lost_after t.made lost) t.to list stays.1 stops.1 (move-some type lost t.made from t.to stays.0 has follow.0) first.0.covered follow.1 in
+      record {
+        moves = gate-front type lost t.made (gate_moves_of list) from t.to (gated_of (end_of t.to list)) is_honest (r.stands has) stays.0 has follow.0 rest.moves;
+        has = rest.has;
+        covered = rest.covered;
+      }
+
+  pub history-of-losses : HistoryOfLosses type
+  history-of-losses number before list from legal stays goes has r =
+      let e = legal-end type number before from list legal in
+      (all-lossy e.lost from.to list stays goes has r e.follow).moves

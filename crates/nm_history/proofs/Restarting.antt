@@ -1,5 +1,5 @@
 -- The moves of a history are those of which the laws on crashes and flushes speak.
-use Rattle.std.proofs.Common.{◌≡◌, ⊎_elim, inl, inr, ℕ, List, [], ◌∷◌, ◌++◌, Option, None, Some, IsSome, refl, sym, ap, ◌∙◌, subst}
+use Rattle.std.proofs.Common.{◌≡◌, ⊎_elim, inl, inr, ℕ, IsTrue, List, [], ◌∷◌, ◌++◌, Option, None, Some, IsSome, refl, sym, ap, ◌∙◌, subst}
 use Rattle.nm_leg.specs.Leg.{LegType}
 use Rattle.nm_rules.specs.Reopening.{Marks}
 use Rattle.nm_rules.specs.State.{StripeState}
@@ -11,8 +11,10 @@ use Rattle.nm_gate.specs.declared.gated_stripe.GatedStripe.{GatedStripe}
 use Rattle.nm_gate.specs.Durable.{Durable}
 use Rattle.nm_gate.specs.Gate.{Allows, IsAllowed}
 use Rattle.nm_gate.specs.Moves as gate
-use Rattle.nm_gate.specs.Moves.{AllLeave, Gated, GatedRuns, SomeSyncs}
+use Rattle.nm_gate.specs.Moves.{AllLeave, Gated, GatedRuns, NoneStop, SomeSyncs}
 use Rattle.nm_gate.specs.Returning.{suspects}
+use Rattle.nm_gate.specs.Survive.{Stands}
+use Rattle.nm_gate.proofs.Acknowledged.{move-stands}
 use Rattle.nm_losses.specs.Gated as lossy
 use Rattle.nm_losses.specs.Gated.{AttachesNone, Goes, LossyGatedRuns}
 use Rattle.nm_losses.specs.Moves as losses
@@ -23,9 +25,9 @@ use Rattle.nm_history.specs.declared.transition.Transition.{Transition}
 use Rattle.nm_history.specs.History.{Follow, end_of}
 use Rattle.nm_history.specs.Laws.{All, IsNoLoss, IsNoOpening}
 use Rattle.nm_history.specs.Lost.{ComesBack, Recovers, lost_after}
-use Rattle.nm_history.specs.Moves.{Changes, DoesStep, JoinsMarked, MoveOf}
-use Rattle.nm_history.specs.Restarts.{HistoryOfLosses, HistoryRestarts, LossyMoves, bounds_of, gate_moves_in, gate_moves_of, gated_of, stripe_moves_in, stripe_moves_of}
-use Rattle.nm_history.proofs.Lists.{NoneLost, does-step, legal-end, legal-whole, none-after}
+use Rattle.nm_history.specs.Moves.{Changes, ChangesBounds, ClearsMarks, DoesStep, JoinsMarked, MoveOf}
+use Rattle.nm_history.specs.Restarts.{HistoryRestarts, LossyMoves, bounds_of, gate_moves_in, gate_moves_of, gated_of, stripe_moves_in, stripe_moves_of}
+use Rattle.nm_history.proofs.Lists.{NoneLost, does-step, legal-whole, none-after}
 
 -- where there is a superblock its bounds allow what is allowed
 allowed-some : {L : Type 0} (o : Option Durable) (stripe : StripeState L) (step : Step L) → IsSome o → IsAllowed o stripe step → Allows (bounds_of o) stripe step
@@ -49,6 +51,13 @@ changed-some so (Some d) (Some e) is = refl
 no-attach : {L : Type 0} (durable : Option Durable) (step : Step L) → JoinsMarked durable step → IsNoAttach step
 no-attach durable (Attach leg) is = absurd is
 no-attach durable step is = tt
+
+-- none of the moves stops the stripe: not the first, and none of the others
+pub stop-apart : {L : Type 0} (move : gate.Move L) (moves : List (gate.Move L)) → NoneStop (move ∷ moves) → NoneStop (move ∷ []) × NoneStop moves
+stop-apart (gate.Does step answer) moves goes = ((goes.0, tt), goes.1)
+stop-apart (gate.Looks leg block found) moves goes = (tt, goes)
+stop-apart (gate.Saves saved) moves goes = (tt, goes)
+stop-apart (gate.Clears cleared) moves goes = (tt, goes)
 
 -- and the gate gives the same marks
 same-marks : (leg : ℕ) (o : Option Durable) → IsSome o → suspects leg o ≡ suspects leg (Some (bounds_of o))
@@ -107,48 +116,51 @@ module _ {L : Type 0} (type : LegType L) where
       }
   recovers-front step answer moves old new last has is rest = absurd is
 
-  move-front : (lost : ℕ → Type 0) (move : Move L) (moves : List (gate.Move L)) (old new : GatedStripe L) (last : Gated L) → IsNoOpening move → IsSome old.durable → MoveOf type lost move old new → LossyMoves type moves (gated_of new) last
-      → LossyMoves type (gate_moves_in move (bounds_of new.durable) ++ moves) (gated_of old) last
-  move-front lost Opens moves old new last stays has is rest = absurd stays
-  move-front lost (Does step answer) moves old new last stays has is rest =
+  -- a move that clears marks, of honest legs of a stripe that goes on behind the gate
+  pub clears-is : IsTrue type.honest → (old new : GatedStripe L) → Stands type old.stripe (bounds_of old.durable) → ChangesBounds (ClearsMarks type old.stripe) old new → gate.MoveOf type (gate.Clears (bounds_of new.durable)) (gated_of old) (gated_of new)
+  clears-is is_honest old new s is =
+      let clears : ClearsMarks type old.stripe (bounds_of old.durable) (bounds_of new.durable) = changed _ old.durable new.durable is.durable in
+      (clears.equal is_honest s, is.stripe, refl)
+
+  pub move-front : (lost : ℕ → Type 0) (move : Move L) (moves : List (gate.Move L)) (old new : GatedStripe L) (last : Gated L) → IsTrue type.honest → Stands type old.stripe (bounds_of old.durable) → IsNoOpening move → IsSome old.durable → MoveOf type lost move old new
+      → LossyMoves type moves (gated_of new) last → LossyMoves type (gate_moves_in move (bounds_of new.durable) ++ moves) (gated_of old) last
+  move-front lost Opens moves old new last is_honest s stays has is rest = absurd stays
+  move-front lost (Does step answer) moves old new last is_honest s stays has is rest =
       ⊎_elim
       (λ does. goes-front (gate.Does step answer) moves (gated_of old) (gated_of new) last (step-is step answer old new has does) (no-attach old.durable step does.marked) rest)
       (λ recovers. recovers-front step answer moves old new last has recovers.1 rest)
       is
-  move-front lost (Looks leg block found) moves old new last stays has is rest = goes-front (gate.Looks leg block found) moves (gated_of old) (gated_of new) last (is.0, ap bounds_of is.1) tt rest
-  move-front lost Saves moves old new last stays has is rest =
+  move-front lost (Looks leg block found) moves old new last is_honest s stays has is rest = goes-front (gate.Looks leg block found) moves (gated_of old) (gated_of new) last (is.0, ap bounds_of is.1) tt rest
+  move-front lost Saves moves old new last is_honest s stays has is rest =
       goes-front (gate.Saves (bounds_of new.durable)) moves (gated_of old) (gated_of new) last (changed _ old.durable new.durable is.durable, is.stripe, refl) tt rest
-  move-front lost Clears moves old new last stays has is rest =
-      goes-front (gate.Clears (bounds_of new.durable)) moves (gated_of old) (gated_of new) last (changed _ old.durable new.durable is.durable, is.stripe, refl) tt rest
-  move-front lost (Loses leg) moves old new last stays has is rest = subst (λ (g : GatedStripe L). LossyMoves type moves (gated_of g) last) is.1 rest
+  move-front lost Clears moves old new last is_honest s stays has is rest =
+      goes-front (gate.Clears (bounds_of new.durable)) moves (gated_of old) (gated_of new) last (clears-is is_honest old new s is) tt rest
+  move-front lost (Loses leg) moves old new last is_honest s stays has is rest = subst (λ (g : GatedStripe L). LossyMoves type moves (gated_of g) last) is.1 rest
 
-  pub all-lossy : (lost : ℕ → Type 0) (from : GatedStripe L) (list : List (Transition L)) → All IsNoOpening list → IsSome from.durable → Follow type lost from list → LossyMoves type (gate_moves_of list) (gated_of from) (gated_of (end_of from list))
-  all-lossy lost from [] stays has follow = record { lossy = []; runs = refl; leaves = λ b all. tt; syncs = λ leg some. some }
-  all-lossy lost from (t ∷ list) stays has follow =
-      move-front lost t.made (gate_moves_of list) from t.to (gated_of (end_of t.to list)) stays.0 has follow.0
-      (all-lossy (lost_after t.made lost) t.to list stays.1 (move-some lost t.made from t.to stays.0 has follow.0) follow.1)
+  -- without losses: the move of the gate that a move is
+  record IsOne (move : Move L) (old new : GatedStripe L) : Type 0 where
+    one : gate.Move L
+    alone : gate_moves_in move (bounds_of new.durable) ≡ one ∷ []
+    is : gate.MoveOf type one (gated_of old) (gated_of new)
 
-  pub history-of-losses : HistoryOfLosses type
-  history-of-losses number before list from legal stays has =
-      let e = legal-end type number before from list legal in
-      all-lossy e.lost from.to list stays has e.follow
+  is-one : (lost : ℕ → Type 0) (move : Move L) (old new : GatedStripe L) → IsTrue type.honest → Stands type old.stripe (bounds_of old.durable) → NoneLost lost → IsNoLoss move → IsNoOpening move → IsSome old.durable → MoveOf type lost move old new → IsOne move old new
+  is-one lost Opens old new is_honest s none whole stays has is = absurd stays
+  is-one lost (Does step answer) old new is_honest s none whole stays has is = record { one = gate.Does step answer; alone = refl; is = step-is step answer old new has (does-step type lost step answer old new none is) }
+  is-one lost (Looks leg block found) old new is_honest s none whole stays has is = record { one = gate.Looks leg block found; alone = refl; is = (is.0, ap bounds_of is.1) }
+  is-one lost Saves old new is_honest s none whole stays has is = record { one = gate.Saves (bounds_of new.durable); alone = refl; is = (changed _ old.durable new.durable is.durable, is.stripe, refl) }
+  is-one lost Clears old new is_honest s none whole stays has is = record { one = gate.Clears (bounds_of new.durable); alone = refl; is = clears-is is_honest old new s is }
+  is-one lost (Loses leg) old new is_honest s none whole stays has is = absurd whole
 
-  -- without losses: a move of the gate, in front of others
-  move-gated : (lost : ℕ → Type 0) (move : Move L) (old new : GatedStripe L) (moves : List (gate.Move L)) (last : Gated L) → NoneLost lost → IsNoLoss move → IsNoOpening move → IsSome old.durable → MoveOf type lost move old new → GatedRuns type moves (gated_of new) last
-      → GatedRuns type (gate_moves_in move (bounds_of new.durable) ++ moves) (gated_of old) last
-  move-gated lost Opens old new moves last none whole stays has is rest = absurd stays
-  move-gated lost (Does step answer) old new moves last none whole stays has is rest = (gated_of new, step-is step answer old new has (does-step type lost step answer old new none is), rest)
-  move-gated lost (Looks leg block found) old new moves last none whole stays has is rest = (gated_of new, (is.0, ap bounds_of is.1), rest)
-  move-gated lost Saves old new moves last none whole stays has is rest = (gated_of new, (changed _ old.durable new.durable is.durable, is.stripe, refl), rest)
-  move-gated lost Clears old new moves last none whole stays has is rest = (gated_of new, (changed _ old.durable new.durable is.durable, is.stripe, refl), rest)
-  move-gated lost (Loses leg) old new moves last none whole stays has is rest = absurd whole
-
-  all-gated : (lost : ℕ → Type 0) (from : GatedStripe L) (list : List (Transition L)) → NoneLost lost → All IsNoLoss list → All IsNoOpening list → IsSome from.durable → Follow type lost from list
-      → GatedRuns type (gate_moves_of list) (gated_of from) (gated_of (end_of from list))
-  all-gated lost from [] none whole stays has follow = refl
-  all-gated lost from (t ∷ list) none whole stays has follow =
-      move-gated lost t.made from t.to (gate_moves_of list) (gated_of (end_of t.to list)) none whole.0 stays.0 has follow.0
-      (all-gated (lost_after t.made lost) t.to list (none-after t.made lost none whole.0) whole.1 stays.1 (move-some lost t.made from t.to stays.0 has follow.0) follow.1)
+  all-gated : (lost : ℕ → Type 0) (from : GatedStripe L) (list : List (Transition L)) → IsTrue type.honest → Stands type from.stripe (bounds_of from.durable) → NoneStop (gate_moves_of list) → NoneLost lost → All IsNoLoss list → All IsNoOpening list → IsSome from.durable
+      → Follow type lost from list → GatedRuns type (gate_moves_of list) (gated_of from) (gated_of (end_of from list))
+  all-gated lost from [] is_honest s goes none whole stays has follow = refl
+  all-gated lost from (t ∷ list) is_honest s goes none whole stays has follow =
+      let o = is-one lost t.made from t.to is_honest s none whole.0 stays.0 has follow.0 in
+      let all : NoneStop (o.one ∷ gate_moves_of list) = subst (λ (ms : List (gate.Move L)). NoneStop (ms ++ gate_moves_of list)) o.alone goes in
+      let stops = stop-apart o.one (gate_moves_of list) all in
+      let more = all-gated (lost_after t.made lost) t.to list is_honest (move-stands type is_honest o.one [] (gated_of from) (gated_of t.to) s o.is stops.0) stops.1 (none-after t.made lost none whole.0) whole.1 stays.1
+          (move-some lost t.made from t.to stays.0 has follow.0) follow.1 in
+      subst (λ (ms : List (gate.Move L)). GatedRuns type (ms ++ gate_moves_of list) (gated_of from) (gated_of (end_of t.to list))) (sym o.alone) (gated_of t.to, o.is, more)
 
   -- and one of the stripe alone
   move-alone : (lost : ℕ → Type 0) (move : Move L) (old new : GatedStripe L) (moves : List (losses.Move L)) (last : StripeState L) → NoneLost lost → IsNoLoss move → IsNoOpening move → MoveOf type lost move old new → LossyRuns type moves new.stripe last
@@ -172,6 +184,6 @@ module _ {L : Type 0} (type : LegType L) where
   history-restarts number before list from legal whole stays =
       let w = legal-whole type number before from list legal whole in
       record {
-        gated = λ has. all-gated w.lost from.to list w.none w.whole stays has w.follow;
+        gated = λ is_honest has s goes. all-gated w.lost from.to list is_honest s goes w.none w.whole stays has w.follow;
         alone = all-alone w.lost from.to list w.none w.whole stays w.follow;
       }

@@ -5,11 +5,12 @@ use Rattle.nm_rules.specs.Invariant.{Keeps}
 use Rattle.nm_rules.specs.Sound.{IsSound}
 use Rattle.nm_stripe.specs.Run.{ActOnOneArray, NoneHalted}
 use Rattle.nm_gate.specs.declared.gated_stripe.GatedStripe.{GatedStripe}
+use Rattle.nm_gate.specs.Moves.{NoneStop}
 use Rattle.nm_gate.specs.Survive.{EqualOutside, Stands}
 use Rattle.nm_history.specs.declared.transition.Transition.{Transition}
 use Rattle.nm_history.specs.History.{LegalMoves, end_of}
 use Rattle.nm_history.specs.Laws.{All, IsNoOpening, answers_of, steps_of}
-use Rattle.nm_history.specs.Restarts.{bounds_of}
+use Rattle.nm_history.specs.Restarts.{LossyMoves, bounds_of, gate_moves_of, gated_of}
 
 -- A stripe of which the gate's marks cover what a leg may lose: with a superblock it goes on behind
 -- the gate, and its legs are equal outside marked spans. With none a leg comes back behind wherever
@@ -33,3 +34,11 @@ HistoryActsInLosses {L} type =
     (number : ℕ) (before list : List (Transition L)) (from : Transition L)
     → LegalMoves type number (before ++ from ∷ list) → All IsNoOpening list
     → NoneHalted (answers_of list) → IsCovered type from.to → ActsCovered type from.to list
+
+-- And what is done there, with a superblock, is moves of which the laws on losses speak.
+abbrev pub HistoryOfLosses : {L : Type 0} → LegType L → Type 0
+HistoryOfLosses {L} type =
+    (number : ℕ) (before list : List (Transition L)) (from : Transition L)
+    → LegalMoves type number (before ++ from ∷ list) → All IsNoOpening list
+    → NoneStop (gate_moves_of list) → IsSome from.to.durable → IsCovered type from.to
+    → LossyMoves type (gate_moves_of list) (gated_of from.to) (gated_of (end_of from.to list))

@@ -1,9 +1,9 @@
 -- What each move does to a stripe and to what the durable superblock may say of it.
-use Rattle.std.specs.Prelude.{◌≡◌, ◌⊎◌, ℕ, ◌^◌, true, Option, None, Some}
+use Rattle.std.specs.Prelude.{◌≡◌, ◌⊎◌, ℕ, ◌^◌, true, IsTrue, Option, None, Some}
 use Rattle.nm_leg.specs.Leg.{LegType}
 use Rattle.nm_rules.specs.Invariant.{Keeps}
 use Rattle.nm_rules.specs.Opening.{opened}
-use Rattle.nm_rules.specs.State.{is_out, leg_state, next_number}
+use Rattle.nm_rules.specs.State.{StripeState, is_out, leg_state, next_number}
 use Rattle.nm_stripe.specs.Run.{MayBeAsked, StepOf}
 use Rattle.nm_stripe.specs.declared.answer.Answer.{Answer}
 use Rattle.nm_stripe.specs.declared.step.Step.{Step}
@@ -15,6 +15,7 @@ use Rattle.nm_gate.specs.Looking.{LooksAt}
 use Rattle.nm_gate.specs.Moves.{Unmarks}
 use Rattle.nm_gate.specs.Returning.{suspects}
 use Rattle.nm_gate.specs.Saves.{Resaves}
+use Rattle.nm_gate.specs.Survive.{Stands}
 use Rattle.nm_history.specs.declared.transition.Move.{Move}
 use Rattle.nm_history.specs.declared.transition.Move.TheVariants.{Opens, Does, Looks, Saves}
 use Rattle.nm_history.specs.declared.transition.Move.TheVariants.{Clears, Loses}
@@ -61,6 +62,13 @@ pub record ChangesBounds {L : Type 0} (so : Durable → Durable → Type 0) (old
   pub stripe : new.stripe ≡ old.stripe
   pub durable : Changes so old.durable new.durable
 
+-- Marks are cleared, and nothing else changes. Where the legs are honest, and the stripe goes on
+-- behind the gate, they hold the same, durably, where marks go.
+pub record ClearsMarks {L : Type 0} (type : LegType L) (stripe : StripeState L)
+    (old new : Durable) : Type 0 where
+  pub after : new ≡ record old { marked = new.marked }
+  pub equal : IsTrue type.honest → Stands type stripe old → Unmarks type.model stripe old new
+
 -- the move leads from one to the other, where these legs had lost power
 abbrev pub MoveOf : {L : Type 0} → LegType L → (lost : ℕ → Type 0) → Move L
     → (old new : GatedStripe L) → Type 0
@@ -71,5 +79,5 @@ MoveOf type lost (Does step answer) old new =
 MoveOf type lost (Looks leg block found) old new =
     LooksAt type leg block found old.stripe new.stripe × (new.durable ≡ old.durable)
 MoveOf type lost Saves old new = ChangesBounds (Resaves old.stripe) old new
-MoveOf type lost Clears old new = ChangesBounds (Unmarks type.model old.stripe) old new
+MoveOf type lost Clears old new = ChangesBounds (ClearsMarks type old.stripe) old new
 MoveOf type lost (Loses leg) old new = (is_out (leg_state leg old.stripe) ≡ true) × (new ≡ old)

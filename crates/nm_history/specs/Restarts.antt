@@ -1,10 +1,11 @@
 -- What a history is to the laws of nm_gate and nm_losses, which speak of crashes and flushes.
-use Rattle.std.specs.Prelude.{ℕ, List, [], ◌∷◌, ◌++◌, Option, None, Some, IsSome, false}
+use Rattle.std.specs.Prelude.{ℕ, List, [], ◌∷◌, ◌++◌, Option, None, Some, IsSome, IsTrue, false}
 use Rattle.nm_leg.specs.Leg.{LegType}
 use Rattle.nm_gate.specs.declared.gated_stripe.GatedStripe.{GatedStripe}
 use Rattle.nm_gate.specs.Durable.{Durable}
 use Rattle.nm_gate.specs.Moves as gate
-use Rattle.nm_gate.specs.Moves.{AllLeave, Gated, GatedRuns, SomeSyncs}
+use Rattle.nm_gate.specs.Moves.{AllLeave, Gated, GatedRuns, NoneStop, SomeSyncs}
+use Rattle.nm_gate.specs.Survive.{Stands}
 use Rattle.nm_losses.specs.Gated.{GatedMove, LossyGatedRuns}
 use Rattle.nm_losses.specs.Moves as losses
 use Rattle.nm_losses.specs.Moves.{LossyRuns}
@@ -65,20 +66,13 @@ pub record LossyMoves {L : Type 0} (type : LegType L) (moves : List (gate.Move L
   pub leaves : (block : ℕ) → AllLeave block moves → AllLeave block (among lossy)
   pub syncs : (leg : ℕ) → SomeSyncs leg moves → SomeSyncs leg (among lossy)
 
--- From a stripe of the history with a superblock on, until it opens anew, what is done is such
--- moves, whichever legs lose power.
-abbrev pub HistoryOfLosses : {L : Type 0} → LegType L → Type 0
-HistoryOfLosses {L} type =
-    (number : ℕ) (before list : List (Transition L)) (from : Transition L)
-    → LegalMoves type number (before ++ from ∷ list) → All IsNoOpening list
-    → IsSome from.to.durable → LossyMoves type (gate_moves_of list)
-    (gated_of from.to) (gated_of (end_of from.to list))
-
--- Without losses it is moves of a stripe behind the gate, where there is a superblock; and always
--- moves of the stripe alone.
+-- Without losses what is done from a stripe of the history on, until it opens anew, is moves of a
+-- stripe behind the gate, where there is a superblock, the stripe goes on behind the gate, and none
+-- stops it; and always moves of the stripe alone.
 pub record RestartsFrom {L : Type 0} (type : LegType L) (from : Transition L)
     (list : List (Transition L)) : Type 0 where
-  pub gated : IsSome from.to.durable
+  pub gated : IsTrue type.honest → IsSome from.to.durable
+      → Stands type from.to.stripe (bounds_of from.to.durable) → NoneStop (gate_moves_of list)
       → GatedRuns type (gate_moves_of list) (gated_of from.to) (gated_of (end_of from.to list))
   pub alone : LossyRuns type (stripe_moves_of list)
       from.to.stripe (end_of from.to list).stripe

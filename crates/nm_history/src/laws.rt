@@ -2,8 +2,8 @@
 ghost use Rattle.std.specs.Prelude.{IsTrue};
 ghost use Rattle.nm_history.specs.Flushed.{HistoryKeepsFlushed};
 ghost use Rattle.nm_history.specs.Laws.{HistoriesGoOn, HistoryActs, LossesMayStand};
-ghost use Rattle.nm_history.specs.LossyActs.{HistoryActsInLosses};
-ghost use Rattle.nm_history.specs.Restarts.{HistoryOfLosses, HistoryRestarts};
+ghost use Rattle.nm_history.specs.LossyActs.{HistoryActsInLosses, HistoryOfLosses};
+ghost use Rattle.nm_history.specs.Restarts.{HistoryRestarts};
 ghost use Rattle.nm_history.specs.Telling.{ReadsAreToldAfterwards};
 ghost use Rattle.nm_leg.specs.Leg.{leg_type};
 
@@ -36,7 +36,7 @@ pub fn history_restarts<L: LegPart>()
 
 /// With losses, moves of which the laws on legs that lose power speak.
 pub fn history_of_losses<L: LegPart>()
-    ensures { HistoryOfLosses (leg_type L.model L.honest) }
+    ensures { IsTrue L.honest → HistoryOfLosses (leg_type L.model L.honest) }
 {}
 
 /// And what was flushed stays on each leg that the superblock may call in sync.
