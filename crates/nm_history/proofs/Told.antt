@@ -1,7 +1,8 @@
--- Of the room of a read its length alone matters.
-use Rattle.std.proofs.Common.{◌≡◌, ℕ, ◌*◌, ◌/◌, List, Option, None, Some, length, refl, sym, ap, ◌∙◌, subst}
+-- How moves are told once they are made: of the room of a read its length alone matters.
+use Rattle.std.proofs.Common.{◌≡◌, ℕ, ◌*◌, ◌/◌, Bool, true, false, List, Option, None, Some, IsSome, Result, Ok, Err, length, refl, sym, ap, ◌∙◌, subst}
 use Rattle.nm_leg.specs.Leg.{LegType}
 use Rattle.nm_rules.specs.declared.refusal.Refusal.{Refusal}
+use Rattle.nm_rules.specs.Reopening.{Marks}
 use Rattle.nm_rules.specs.RunRead.{read_run_cause}
 use Rattle.nm_rules.specs.Runs.{FitsRun}
 use Rattle.nm_rules.specs.State.{StripeState}
@@ -9,14 +10,19 @@ use Rattle.nm_stripe.specs.declared.answer.Answer.{Answer}
 use Rattle.nm_stripe.specs.declared.answer.Answer.TheVariants.{LegLost, Refused, Value}
 use Rattle.nm_stripe.specs.declared.answer.Handed.{Handed}
 use Rattle.nm_stripe.specs.declared.answer.Handed.TheVariants.{Room}
-use Rattle.nm_stripe.specs.declared.step.Step.TheVariants.{Read}
+use Rattle.nm_stripe.specs.declared.step.Step.TheVariants.{Attach, Read, Return}
 use Rattle.nm_stripe.specs.Read.{RefusesRead, ForCause, ForFault}
 use Rattle.nm_stripe.specs.Run.{MayBeAsked, StepOf}
 use Rattle.nm_gate.specs.declared.gated_stripe.GatedStripe.{GatedStripe}
+use Rattle.nm_gate.specs.Changes.{Resaved}
 use Rattle.nm_gate.specs.Gate.{IsAllowed}
 use Rattle.nm_gate.specs.Durable.{Durable}
-use Rattle.nm_history.specs.Moves.{DoesStep}
-use Rattle.nm_history.specs.Telling.{ReadsAreToldAfterwards, room_back}
+use Rattle.nm_gate.specs.Returning.{suspects}
+use Rattle.nm_gate.specs.Saves.{Resaves}
+use Rattle.nm_history.specs.declared.transition.Move.TheVariants.{Looks, Saves}
+use Rattle.nm_history.specs.Lost.{none_lost}
+use Rattle.nm_history.specs.Moves.{Changes, DoesStep, MoveOf}
+use Rattle.nm_history.specs.Telling.{LookedAt, MovesAreTold, ReturnsBehind, answer_of_return, found_if, room_back}
 
 -- the bytes of a room that comes back
 abbrev bytes_in : {L : Type 0} → List ℕ → Handed L → List ℕ
@@ -61,5 +67,57 @@ module _ {L : Type 0} (type : LegType L) (block : ℕ) (room : List ℕ) (old ne
       does
   told-as answer does = does
 
-pub reads-told : {L : Type 0} (type : LegType L) → ReadsAreToldAfterwards type
-reads-told type block room answer old new does = told-as type block room old new answer does
+-- what may attach may return
+return-allowed : {L : Type 0} (durable : Option Durable) (stripe : StripeState L) (leg : ℕ) (marks : Marks) → IsAllowed durable stripe (Attach leg) → IsAllowed durable stripe (Return leg marks)
+return-allowed None stripe leg marks allowed = tt
+return-allowed (Some d) stripe leg marks allowed = allowed
+
+module _ {L : Type 0} (type : LegType L) where
+  returns-told : (leg : ℕ) (result : Result ℕ Refusal) (old new : GatedStripe L) → ReturnsBehind type leg result old new → DoesStep type (Return leg (suspects leg old.durable)) (answer_of_return result) old new
+  returns-told leg (Ok blocks) old new r = record {
+    allowed = return-allowed {L = L} old.durable old.stripe leg (suspects leg old.durable) r.allowed;
+    marked = refl;
+    asked = (r.there, r.span);
+    does = (r.ok, r.left);
+    durable = r.durable;
+  }
+  returns-told leg (Err refusal) old new r = record {
+    allowed = return-allowed {L = L} old.durable old.stripe leg (suspects leg old.durable) r.allowed;
+    marked = refl;
+    asked = (r.there, r.span);
+    does = (r.cause, refl, r.stays);
+    durable = r.durable;
+  }
+
+  looks-told : (leg block : ℕ) (went : Bool) (bytes : List ℕ) (old new : GatedStripe L) → LookedAt type leg block went bytes old.stripe new.stripe → new.durable ≡ old.durable → MoveOf type none_lost (Looks leg block (found_if went bytes)) old new
+  looks-told leg block true bytes old new is durable = (record { in_sync = is.in_sync; reads = is.reads; after = is.others }, durable)
+  looks-told leg block false bytes old new is durable = (
+    record {
+      in_sync = is.in_sync;
+      reads = record {
+        before = is.reads.before;
+        after = is.reads.after;
+        change = is.reads.change;
+        reads = record { calls = is.reads.reads.calls; found = λ is_honest done. tt; contents = is.reads.reads.contents; durable = is.reads.reads.durable };
+      };
+      after = is.others;
+    },
+    durable,
+  )
+
+  saves-told : (old new : GatedStripe L) → new.stripe ≡ old.stripe → IsSome old.durable → Resaved old.stripe old.durable new.durable → MoveOf type none_lost Saves old new
+  saves-told old new same has is = record { stripe = same; durable = changes old.stripe old.durable new.durable has is }
+    where
+      changes : (stripe : StripeState L) (o p : Option Durable) → IsSome o → Resaved stripe o p → Changes (Resaves stripe) o p
+      changes stripe None None has is = cc
+      changes stripe None (Some e) has is = absurd is
+      changes stripe (Some d) None has is = absurd is
+      changes stripe (Some d) (Some e) has is = is
+
+  pub moves-told : MovesAreTold type
+  moves-told = record {
+    reads = λ block room answer old new does. told-as type block room old new answer does;
+    returns = returns-told;
+    looks = looks-told;
+    saves = saves-told;
+  }

@@ -4,7 +4,7 @@ ghost use Rattle.nm_history.specs.Flushed.{HistoryKeepsFlushed};
 ghost use Rattle.nm_history.specs.Laws.{HistoriesGoOn, HistoryActs, LossesMayStand};
 ghost use Rattle.nm_history.specs.LossyActs.{HistoryActsInLosses, HistoryOfLosses};
 ghost use Rattle.nm_history.specs.Restarts.{HistoryRestarts};
-ghost use Rattle.nm_history.specs.Telling.{ReadsAreToldAfterwards};
+ghost use Rattle.nm_history.specs.Telling.{MovesAreTold};
 ghost use Rattle.nm_leg.specs.Leg.{leg_type};
 
 use nm_leg::LegPart;
@@ -44,7 +44,7 @@ pub fn history_keeps_flushed<L: LegPart>()
     ensures { IsTrue L.honest → HistoryKeepsFlushed (leg_type L.model L.honest) }
 {}
 
-/// A read may be told once it is done, with the room as it came back.
-pub fn reads_are_told_afterwards<L: LegPart>()
-    ensures { ReadsAreToldAfterwards (leg_type L.model L.honest) }
+/// Moves are told, once they are made, by what is in hand then.
+pub fn moves_are_told<L: LegPart>()
+    ensures { MovesAreTold (leg_type L.model L.honest) }
 {}
