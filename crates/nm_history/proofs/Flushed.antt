@@ -1,5 +1,5 @@
 -- A flush and what comes after it are moves of which the law on flushes and losses speaks.
-use Rattle.std.proofs.Common.{◌≡◌, ℕ, IsTrue, List, [], ◌∷◌, ◌++◌, IsSome, length}
+use Rattle.std.proofs.Common.{◌≡◌, ℕ, IsTrue, List, [], ◌∷◌, ◌++◌, length}
 use Rattle.nm_leg.specs.Leg.{IsDurableElsewhere, LegType}
 use Rattle.nm_gate.specs.declared.gated_stripe.GatedStripe.{GatedStripe}
 use Rattle.nm_gate.specs.Moves as gate
