@@ -159,7 +159,7 @@ module _ {L : Type 0} (type : LegType L) where
       let all : NoneStop (o.one ∷ gate_moves_of list) = subst (λ (ms : List (gate.Move L)). NoneStop (ms ++ gate_moves_of list)) o.alone goes in
       let stops = stop-apart o.one (gate_moves_of list) all in
       let more = all-gated (lost_after t.made lost) t.to list is_honest (move-stands type is_honest o.one [] (gated_of from) (gated_of t.to) s o.is stops.0) stops.1 (none-after t.made lost none whole.0) whole.1 stays.1
-          (move-some lost t.made from t.to stays.0 has follow.0) follow.1 in
+      (move-some lost t.made from t.to stays.0 has follow.0) follow.1 in
       subst (λ (ms : List (gate.Move L)). GatedRuns type (ms ++ gate_moves_of list) (gated_of from) (gated_of (end_of t.to list))) (sym o.alone) (gated_of t.to, o.is, more)
 
   -- and one of the stripe alone

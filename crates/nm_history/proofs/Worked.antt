@@ -46,12 +46,12 @@ comes-back = record {
 -- It opens; a claim is refused; the leg that is out loses power, and comes back as what that left of
 -- it, behind where it has not synced.
 pub worked : LegalMoves held 0 (
-  left_by Opens stripe
-  ∷ left_by (Does (Claim 0) (Refused NoTicket Nothing)) stripe
-  ∷ left_by (Loses 1) stripe
-  ∷ left_by (Does (Return 1 everywhere) (Joining (left 1 back))) back
-  ∷ []
-)
+    left_by Opens stripe
+    ∷ left_by (Does (Claim 0) (Refused NoTicket Nothing)) stripe
+    ∷ left_by (Loses 1) stripe
+    ∷ left_by (Does (Return 1 everywhere) (Joining (left 1 back))) back
+    ∷ []
+    )
 worked = (
   refl,
   stands.keeps,
