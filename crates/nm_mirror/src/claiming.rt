@@ -10,6 +10,7 @@ ghost use Rattle.nm_mirror.specs.declared.ask.Ask.TheVariants.{Answer};
 use crate::ask::{Ask, refusal_of};
 use crate::held::Held;
 use crate::unclaimed::Unclaimed;
+use nm_book::Naming;
 use nm_leg::LegPart;
 use nm_stripe::{Refusal, Stripe};
 use std::mem::replace;
@@ -28,7 +29,7 @@ fn push_all<L: LegPart>(stripe: &mut Stripe<L>, ticket: u64)
     }
 }
 
-impl<L: LegPart> Held<L> {
+impl<L: LegPart, J: Naming> Held<L, J> {
     /// Claims the write of this ticket, for nobody: its entries count among those of writes that
     /// were left. Whether it is gone.
     fn claim_for_nobody(&mut self, ticket: u64) -> bool

@@ -16,6 +16,7 @@ use crate::doubts::{Doubts, Returning};
 use crate::held::Held;
 use crate::lock::Lock;
 use crate::mirror::Mirror;
+use nm_book::Naming;
 use nm_gate::GatedStripe;
 use nm_geometry::MOST_LEGS;
 use nm_lanes::{CallKind, Gate, StepKind};
@@ -103,7 +104,7 @@ fn attach_in<L: LegPart>(gated: &mut GatedStripe<L>, leg: u8, counts: &mut Attac
     }
 }
 
-impl<L: LegPart> Held<L> {
+impl<L: LegPart, J: Naming> Held<L, J> {
     /// The same, which the stripe's gate has to let pass where the leg joins.
     fn attach(&mut self, leg: u8, counts: &mut AttachCounts)
         requires joins { LetsJoin self.old.gated.durable self.old.gated.stripe leg }
@@ -168,11 +169,11 @@ fn may_join<L: LegPart>(stripe: &Stripe<L>, leg: u8) -> bool
 
 /// Takes the stripe for an attach of the leg. It waits for no superblock where the leg does not
 /// join, since each may go on calling it in sync.
-fn hold_to_attach<'x, L: LegPart, R: Wait>(
-    lock: &'x Lock<L>,
+fn hold_to_attach<'x, L: LegPart, J: Naming, R: Wait>(
+    lock: &'x Lock<L, J>,
     rt: &R,
     leg: u8,
-) -> Option<MutexGuard<'x, Held<L>>>
+) -> Option<MutexGuard<'x, Held<L, J>>>
     ensures joins { IfSome result (λ guard. LetsJoin (mutex_guard_value guard).gated.durable
         (mutex_guard_value guard).gated.stripe leg) }
     ensures number { IfSome result (λ guard.
@@ -186,7 +187,7 @@ fn hold_to_attach<'x, L: LegPart, R: Wait>(
     lock.hold_for(rt, Ask::Attach(leg))
 }
 
-impl<L: LegPart, G: Gate + Drop> Mirror<L, G> {
+impl<L: LegPart, G: Gate + Drop, J: Naming> Mirror<L, G, J> {
     /// Takes the leg out of every stripe, and counts what came of it. It waits for no superblock,
     /// but wants the loss to be saved.
     pub fn fail_leg<R: Wait>(&self, rt: &R, leg: u8) -> FailCounts

@@ -15,6 +15,7 @@ use crate::counts::ReplaceCounts;
 use crate::held::Held;
 use crate::legs::fail_in;
 use crate::mirror::Mirror;
+use nm_book::Naming;
 use nm_lanes::{CallKind, Gate, StepKind};
 use nm_leg::LegPart;
 use nm_stripe::{LegState, Refusal, Stripe};
@@ -91,7 +92,7 @@ fn replace_in<L: LegPart>(stripe: &mut Stripe<L>, leg: u8, part: L, counts: &mut
     }
 }
 
-impl<L: LegPart> Held<L> {
+impl<L: LegPart, J: Naming> Held<L, J> {
     /// The same, which the stripe's gate has to let pass where the leg is out.
     fn replace(&mut self, leg: u8, part: L, counts: &mut ReplaceCounts)
         requires passes { LetsPass self.old.gated.durable self.old.gated.stripe (ask.Replace leg) }
@@ -104,7 +105,7 @@ impl<L: LegPart> Held<L> {
     }
 }
 
-impl<L: LegPart, G: Gate + Drop> Mirror<L, G> {
+impl<L: LegPart, G: Gate + Drop, J: Naming> Mirror<L, G, J> {
     /// Why the leg cannot be taken out to be replaced, as the stripes are looked at one after the
     /// other.
     fn hindrance_to_withdraw<R: Wait>(&self, rt: &R, leg: u8) -> Option<Withdrawal>

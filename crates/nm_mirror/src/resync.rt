@@ -11,6 +11,7 @@ use crate::bounds::within_bounds;
 use crate::copy_round::{CopyRound, LegRound, Visit};
 use crate::doubts::Doubts;
 use crate::mirror::Mirror;
+use nm_book::Naming;
 use nm_fanout::MOST_RUN;
 use nm_gate::{GateRefusal, GatedStripe};
 use nm_lanes::{CallKind, Gate, StepKind};
@@ -210,7 +211,7 @@ impl Helped {
     }
 }
 
-impl<L: LegPart, G: Gate + Drop> Mirror<L, G> {
+impl<L: LegPart, G: Gate + Drop, J: Naming> Mirror<L, G, J> {
     /// In every stripe, for each joining leg, does what brings it nearer to being in sync: calls it
     /// so where nothing is left to copy to it, and else copies to it, by a run of blocks or half of
     /// that. Where a write or another copy stands in the way of the copy, it helps that by one

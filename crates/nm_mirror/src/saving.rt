@@ -8,6 +8,7 @@ use crate::mirror::Mirror;
 use crate::save_desk::{MOST_SPANS, Wanted};
 use crate::save_order::SaveOrder;
 use crate::save_taking::{Taken, end_at, fail_at, join_marks};
+use nm_book::Naming;
 use nm_geometry::LegSet;
 use nm_lanes::Gate;
 use nm_leg::LegPart;
@@ -17,7 +18,7 @@ use std::time::{Clock, Duration};
 
 /// Saves, for the one thread that does them: `next_save`, then `begin_save`, then `end_save` or
 /// `fail_save`. In a mirror without superblocks none is ever wanted.
-impl<L: LegPart, G: Gate + Drop> Mirror<L, G> {
+impl<L: LegPart, G: Gate + Drop, J: Naming> Mirror<L, G, J> {
     /// Asks for a save.
     pub fn want_save<R: Wait>(&self, rt: &R) {
         if let Some(desk) = &self.desk {

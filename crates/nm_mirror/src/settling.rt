@@ -14,6 +14,7 @@ use crate::ask::{Ask, refusal_of};
 use crate::doubts::Doubts;
 use crate::lock::Lock;
 use crate::mirror::Mirror;
+use nm_book::Naming;
 use nm_gate::GatedStripe;
 use nm_geometry::LegSet;
 use nm_lanes::Gate;
@@ -131,7 +132,11 @@ fn settle_gated<L: LegPart, D: Doubts>(gated: &mut GatedStripe<L>, doubts: &D) -
 }
 
 /// The same, in one hold.
-fn settle<L: LegPart, R: Wait, D: Doubts>(rt: &R, lock: &Lock<L>, doubts: &D) -> bool {
+fn settle<L: LegPart, J: Naming, R: Wait, D: Doubts>(
+    rt: &R,
+    lock: &Lock<L, J>,
+    doubts: &D,
+) -> bool {
     settle_gated(&mut lock.hold(rt).gated, doubts)
 }
 
@@ -142,7 +147,7 @@ fn legs_at_work<L: LegPart>(stripe: &Stripe<L>) -> u8
     at_work(stripe).bits()
 }
 
-impl<L: LegPart, G: Gate + Drop> Mirror<L, G> {
+impl<L: LegPart, G: Gate + Drop, J: Naming> Mirror<L, G, J> {
     /// Counts a turn of each stripe in which something is not synced. After six it is due. No
     /// stripe is held.
     pub fn age(&self) {

@@ -7,13 +7,14 @@ ghost use Rattle.nm_verify.specs.Verification.{noted};
 
 use crate::bounds::within_bounds;
 use crate::mirror::Mirror;
+use nm_book::Naming;
 use nm_lanes::Gate;
 use nm_leg::LegPart;
 use nm_stripe::At;
 use nm_verify::{Begun, Cursor, Half, MOST_BYTES, Seen, Verification, look_first, look_second};
 use std::sync::Wait;
 
-impl<L: LegPart, G: Gate + Drop> Mirror<L, G> {
+impl<L: LegPart, G: Gate + Drop, J: Naming> Mirror<L, G, J> {
     /// Looks at the first leg there in one hold of the stripe, whose place it gives.
     fn look_first<R: Wait>(&self, rt: &R, at: Cursor, held: &mut [u8]) -> (At, Begun)
         requires stripe { at.stripe < self.now.shape.stripes }
