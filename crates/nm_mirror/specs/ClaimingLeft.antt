@@ -11,6 +11,7 @@ use Rattle.nm_stripe.specs.Run.{Runs}
 use Rattle.nm_gate.specs.declared.gate_refusal.GateRefusal.{GateRefusal}
 use Rattle.nm_mirror.specs.Asks.{LetsPass, Refuses}
 use Rattle.nm_mirror.specs.Claiming.{ClaimsFor, with_ticket}
+use Rattle.nm_mirror.specs.Holding.{with_stripe}
 use Rattle.nm_mirror.specs.declared.ask.Ask.TheVariants.{Answer as ToAnswer}
 use Rattle.nm_mirror.specs.declared.held.Held.{Held}
 
@@ -41,10 +42,6 @@ pub data ClaimsIfSaved {L J : Type 0} (ticket : ℕ) (gone : Bool) (old new : He
   Waits : (refusal : GateRefusal)
       → Refuses old.gated.durable old.gated.stripe ToAnswer refusal → gone ≡ false → new ≡ old
       → ClaimsIfSaved ticket gone old new
-
--- what is held, with this stripe behind the gate
-abbrev pub with_stripe : {L J : Type 0} → StripeState L → Held L J → Held L J
-with_stripe stripe held = record held { gated = record held.gated { stripe = stripe } }
 
 -- the write of this ticket is pushed, and then claimed if the gate lets that pass
 pub record TriesClaim {L J : Type 0} (type : LegType L) (ticket : ℕ) (gone : Bool)

@@ -86,8 +86,8 @@ pub record HasStopped (L : Type 0) (number : ℕ) (stopped : Bool) : Type 0 wher
   pub stopped_is : stripe.stopped ≡ stopped
 
 -- the stripe behind the lock was opened anew in a hold of it, with so many blocks left to copy
-pub record OpensAnew {L : Type 0} (J : Type 0) (place : At) (legs : List L) (policy : Policy) (blocks : ℕ)
-    : Type 0 where
+pub record OpensAnew {L : Type 0} (J : Type 0) (place : At) (legs : List L) (policy : Policy)
+    (blocks : ℕ) : Type 0 where
   pub held : Held L J × Held L J
   pub number_is : held.0.gated.stripe.place.stripe ≡ place.stripe
   pub reopens : Reopens place legs policy held.0 held.1

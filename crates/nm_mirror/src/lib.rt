@@ -58,6 +58,7 @@ mod marked_opening;
 mod mirror;
 mod mirror_fault;
 mod opening;
+mod own_steps;
 mod part_lane;
 mod pass;
 mod refused;

@@ -19,7 +19,7 @@ use nm_geometry::{ByteRange, Shape};
 use nm_lanes::{Gate, WriteFault};
 use nm_leg::LegPart;
 use nm_replay::BLOCK_BYTES;
-use nm_verify::{Cursor, MOST_BYTES, look_without};
+use nm_verify::{Cursor, MOST_BYTES};
 use std::alloc::Global;
 use std::sync::Wait;
 
@@ -70,7 +70,7 @@ impl<L: LegPart, G: Gate + Drop, J: Naming> Mirror<L, G, J> {
     {
         let mut lent = self.hold(rt, at.stripe);
         let opening = lent.openings;
-        let agreed = look_without(&mut lent.gated.stripe, at, leg, held, found)?;
+        let agreed = lent.look_without(at, leg, held, found)?;
         let tickets = agreed.tickets;
         Some((Sight { opening, tickets }, agreed.count))
     }

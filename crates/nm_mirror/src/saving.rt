@@ -7,7 +7,7 @@ use crate::bounds::within_bounds;
 use crate::mirror::Mirror;
 use crate::save_desk::{MOST_SPANS, Wanted};
 use crate::save_order::SaveOrder;
-use crate::save_taking::{Taken, end_at, fail_at, join_marks};
+use crate::save_taking::{Taken, join_marks};
 use nm_book::Naming;
 use nm_geometry::LegSet;
 use nm_lanes::Gate;
@@ -93,7 +93,7 @@ impl<L: LegPart, G: Gate + Drop, J: Naming> Mirror<L, G, J> {
         let mut taken = Taken::new(spans);
         'stripes: for stripe in 0..self.shape.stripes {
             let mut held = self.hold(rt, stripe);
-            taken.take(&mut held.gated, whole);
+            taken.take(&mut held, whole);
         }
         taken
     }
@@ -130,7 +130,7 @@ impl<L: LegPart, G: Gate + Drop, J: Naming> Mirror<L, G, J> {
         within_bounds(&self.shape);
         for stripe in 0..self.shape.stripes {
             let mut held = self.hold(rt, stripe);
-            end_at(&mut held.gated, &order);
+            held.end_save(&order);
             held.claim_left();
         }
         if let Some(desk) = &self.desk {
@@ -143,7 +143,7 @@ impl<L: LegPart, G: Gate + Drop, J: Naming> Mirror<L, G, J> {
     pub fn fail_save<R: Wait>(&self, rt: &R) {
         for lock in &self.locks {
             let mut held = lock.hold(rt);
-            fail_at(&mut held.gated);
+            held.fail_save();
         }
         if let Some(desk) = &self.desk {
             desk.fail(rt);

@@ -11,7 +11,7 @@ use nm_book::Naming;
 use nm_lanes::Gate;
 use nm_leg::LegPart;
 use nm_stripe::At;
-use nm_verify::{Begun, Cursor, Half, MOST_BYTES, Seen, Verification, look_first, look_second};
+use nm_verify::{Begun, Cursor, Half, MOST_BYTES, Seen, Verification};
 use std::sync::Wait;
 
 impl<L: LegPart, G: Gate + Drop, J: Naming> Mirror<L, G, J> {
@@ -24,7 +24,7 @@ impl<L: LegPart, G: Gate + Drop, J: Naming> Mirror<L, G, J> {
     {
         let mut lent = self.hold(rt, at.stripe);
         let place = lent.gated.stripe.place();
-        (place, look_first(&mut lent.gated.stripe, at, held))
+        (place, lent.look_first(at, held))
     }
 
     /// Looks at the second leg there in another hold.
@@ -44,7 +44,7 @@ impl<L: LegPart, G: Gate + Drop, J: Naming> Mirror<L, G, J> {
         ensures room { length found.new ≡ 65536 }
     {
         let mut lent = self.hold(rt, at.stripe);
-        look_second(&mut lent.gated.stripe, at, half, held, found)
+        lent.look_second(at, half, held, found)
     }
 
     /// Looks at the two legs that are compared next, each in one hold of the stripe, and says what
