@@ -1,5 +1,5 @@
 -- The layouts of the headers: their lengths, and that bytes begin with at most one header of a kind.
-use Rattle.std.proofs.Common.{◌≡◌, ℕ, ◌^◌, ◌<◌, List, [], ◌∷◌, ◌++◌, length, take, drop, refl, sym, ap, ◌∙◌, length-append, lit<}
+use Rattle.std.proofs.Common.{◌≡◌, ℕ, ◌^◌, ◌<◌, ◌≤◌, List, [], ◌∷◌, ◌++◌, length, take, drop, refl, sym, ap, ◌∙◌, arith, length-append, lit<}
 use Rattle.std.specs.Prelude.{◌≢◌}
 use Rattle.std.proofs.lemmas.List.{append_assoc, take_at, take-append-drop}
 use Rattle.nm_wire.specs.Number.{be, option_magic, option_reply_magic, request_magic, simple_reply_magic}
@@ -15,6 +15,10 @@ pub other-magic : (width read magic : ℕ) (bytes : List ℕ) → read < 256 ^ w
     → take width bytes ≡ be width read → read ≢ magic → take width bytes ≢ be width magic
 other-magic width read magic bytes fits magic_fits begins other same =
     other (be-injective width read magic fits magic_fits (sym begins ∙ same))
+
+-- bytes are no shorter than what they begin with
+pub no-shorter : (bytes first rest : List ℕ) → bytes ≡ first ++ rest → length first ≤ length bytes
+no-shorter bytes first rest same = omega (arith, ap length same, length-append first rest)
 
 -- bytes are their first ones, and then the rest
 pub first-ones : (size : ℕ) (bytes first : List ℕ) → take size bytes ≡ first → bytes ≡ first ++ drop size bytes
@@ -92,18 +96,15 @@ option_head_fields = (8, (λ h. option_magic)) ∷ (4, (λ h. h.option)) ∷ (4,
 abbrev OptionHead-of : (option length : ℕ) → OptionHead
 OptionHead-of option length = record { option = option; length = length }
 
--- it is determined by its numbers
-OptionHead-same : (g h : OptionHead) → g.option ≡ h.option → g.length ≡ h.length → g ≡ h
-OptionHead-same g h option length =
-    let same : OptionHead-of g.option g.length ≡ OptionHead-of h.option h.length = rw (option, length) refl in
-    same
-
 -- bytes begin with an option's header in one way at most
 pub option_head_bytes-unique : (g h : OptionHead) (r s : List ℕ) → FitsOptionHead g → FitsOptionHead h
     → option_head_bytes g ++ r ≡ option_head_bytes h ++ s → (g ≡ h) × (r ≡ s)
 unfolding option_head_bytes
 option_head_bytes-unique g h r s g_fits h_fits same =
-    fields-unique option_head_fields g h r s (λ magic. OptionHead-same g h)
+    fields-unique option_head_fields g h r s
+    (λ magic option length.
+    let same : OptionHead-of g.option g.length
+    ≡ OptionHead-of h.option h.length = rw (option, length) refl in same)
     (lit< tt, (g_fits.option, (g_fits.length, tt)))
     (lit< tt, (h_fits.option, (h_fits.length, tt)))
     (simp append_assoc at same)
@@ -117,18 +118,15 @@ option_reply_fields =
 abbrev OptionReply-of : (option kind length : ℕ) → OptionReply
 OptionReply-of option kind length = record { option = option; kind = kind; length = length }
 
--- it is determined by its numbers
-OptionReply-same : (g h : OptionReply) → g.option ≡ h.option → g.kind ≡ h.kind → g.length ≡ h.length → g ≡ h
-OptionReply-same g h option kind length =
-    let same : OptionReply-of g.option g.kind g.length ≡ OptionReply-of h.option h.kind h.length = rw (option, kind, length) refl in
-    same
-
 -- bytes begin with the header of a reply to an option in one way at most
 pub option_reply_bytes-unique : (g h : OptionReply) (r s : List ℕ) → FitsOptionReply g → FitsOptionReply h
     → option_reply_bytes g ++ r ≡ option_reply_bytes h ++ s → (g ≡ h) × (r ≡ s)
 unfolding option_reply_bytes
 option_reply_bytes-unique g h r s g_fits h_fits same =
-    fields-unique option_reply_fields g h r s (λ magic. OptionReply-same g h)
+    fields-unique option_reply_fields g h r s
+    (λ magic option kind length.
+    let same : OptionReply-of g.option g.kind g.length
+    ≡ OptionReply-of h.option h.kind h.length = rw (option, kind, length) refl in same)
     (lit< tt, (g_fits.option, (g_fits.kind, (g_fits.length, tt))))
     (lit< tt, (h_fits.option, (h_fits.kind, (h_fits.length, tt))))
     (simp append_assoc at same)
@@ -136,26 +134,21 @@ option_reply_bytes-unique g h r s g_fits h_fits same =
 -- the numbers of a request's header
 abbrev request_head_fields : List (ℕ × (RequestHead → ℕ))
 request_head_fields =
-    (4, (λ h. request_magic)) ∷ (2, (λ h. h.flags.0)) ∷ (2, (λ h. h.kind)) ∷ (8, (λ h. h.cookie)) ∷ (8, (λ h. h.offset)) ∷ (4, (λ h. h.length)) ∷ []
+    (4, (λ h. request_magic)) ∷ (2, (λ h. h.flags.0)) ∷ (2, (λ h. h.kind))
+    ∷ (8, (λ h. h.cookie)) ∷ (8, (λ h. h.offset)) ∷ (4, (λ h. h.length)) ∷ []
 
 -- a request's header with these numbers
 abbrev RequestHead-of : (flags kind cookie offset length : ℕ) → RequestHead
 RequestHead-of flags kind cookie offset length = record { flags = record { 0 = flags }; kind = kind; cookie = cookie; offset = offset; length = length }
-
--- it is determined by its numbers
-RequestHead-same : (g h : RequestHead) → g.flags.0 ≡ h.flags.0 → g.kind ≡ h.kind
-    → g.cookie ≡ h.cookie → g.offset ≡ h.offset → g.length ≡ h.length → g ≡ h
-RequestHead-same g h flags kind cookie offset length =
-    let same : RequestHead-of g.flags.0 g.kind g.cookie g.offset g.length
-    ≡ RequestHead-of h.flags.0 h.kind h.cookie h.offset h.length = rw (flags, kind, cookie, offset, length) refl in
-    same
 
 -- bytes begin with a request's header in one way at most
 pub request_head_bytes-unique : (g h : RequestHead) (r s : List ℕ) → FitsRequestHead g → FitsRequestHead h
     → request_head_bytes g ++ r ≡ request_head_bytes h ++ s → (g ≡ h) × (r ≡ s)
 unfolding request_head_bytes
 request_head_bytes-unique g h r s g_fits h_fits same =
-    fields-unique request_head_fields g h r s (λ magic. RequestHead-same g h)
+    fields-unique request_head_fields g h r s
+    (λ magic flags kind cookie offset length. let same : RequestHead-of g.flags.0 g.kind g.cookie g.offset g.length
+    ≡ RequestHead-of h.flags.0 h.kind h.cookie h.offset h.length = rw (flags, kind, cookie, offset, length) refl in same)
     (lit< tt, (g_fits.flags, (g_fits.kind, (g_fits.cookie, (g_fits.offset, (g_fits.length, tt))))))
     (lit< tt, (h_fits.flags, (h_fits.kind, (h_fits.cookie, (h_fits.offset, (h_fits.length, tt))))))
     (simp append_assoc at same)
@@ -168,18 +161,15 @@ simple_reply_fields = (4, (λ h. simple_reply_magic)) ∷ (4, (λ h. h.error)) �
 abbrev SimpleReply-of : (error cookie : ℕ) → SimpleReply
 SimpleReply-of error cookie = record { error = error; cookie = cookie }
 
--- it is determined by its numbers
-SimpleReply-same : (g h : SimpleReply) → g.error ≡ h.error → g.cookie ≡ h.cookie → g ≡ h
-SimpleReply-same g h error cookie =
-    let same : SimpleReply-of g.error g.cookie ≡ SimpleReply-of h.error h.cookie = rw (error, cookie) refl in
-    same
-
 -- bytes begin with a simple reply's header in one way at most
 pub simple_reply_bytes-unique : (g h : SimpleReply) (r s : List ℕ) → FitsSimpleReply g → FitsSimpleReply h
     → simple_reply_bytes g ++ r ≡ simple_reply_bytes h ++ s → (g ≡ h) × (r ≡ s)
 unfolding simple_reply_bytes
 simple_reply_bytes-unique g h r s g_fits h_fits same =
-    fields-unique simple_reply_fields g h r s (λ magic. SimpleReply-same g h)
+    fields-unique simple_reply_fields g h r s
+    (λ magic error cookie.
+    let same : SimpleReply-of g.error g.cookie
+    ≡ SimpleReply-of h.error h.cookie = rw (error, cookie) refl in same)
     (lit< tt, (g_fits.error, (g_fits.cookie, tt)))
     (lit< tt, (h_fits.error, (h_fits.cookie, tt)))
     (simp append_assoc at same)

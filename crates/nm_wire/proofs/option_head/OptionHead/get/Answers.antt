@@ -1,15 +1,14 @@
 -- The numbers that were read follow one another; any header that the bytes begin with is this one.
-use Rattle.std.proofs.Common.{length, take, Ok, refl, sym, ap, ◌∙◌, arith, length-append, lit<}
+use Rattle.std.proofs.Common.{take, Ok, refl, sym, ap, ◌∙◌, arith, lit<}
 use Rattle.nm_wire.specs.Number.{option_magic}
 use Rattle.nm_wire.specs.Layout.{FitsOptionHead, option_head_bytes}
 use Rattle.nm_wire.specs.declared.option_head.OptionHead.{OptionHead}
-use Rattle.nm_wire.proofs.Heads.{other-magic, first-ones, length-option_head_bytes, option_head_bytes-magic, option_head_bytes-unique}
+use Rattle.nm_wire.proofs.Heads.{no-shorter, other-magic, first-ones, length-option_head_bytes, option_head_bytes-magic, option_head_bytes-unique}
 use Rattle.nm_wire.proofs.option_head.OptionHead.get.Goals as goal
 
 pub returns-then-bytes-lt16-clause-reads_back : goal.returns-then-bytes-lt16-clause-reads_back
 returns-then-bytes-lt16-clause-reads_back c head rest fits same =
-    let whole = ap length same ∙ length-append (option_head_bytes head) rest in
-    absurd (omega (arith, whole, length-option_head_bytes head))
+    absurd (omega (arith, no-shorter _ (option_head_bytes head) rest same, length-option_head_bytes head))
 
 pub returns-then-get_u64-ne-OPTION_MAGIC-clause-reads_back :
     goal.returns-then-get_u64-ne-OPTION_MAGIC-clause-reads_back

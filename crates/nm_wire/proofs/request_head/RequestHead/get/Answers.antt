@@ -1,15 +1,14 @@
 -- The numbers that were read follow one another; any header that the bytes begin with is this one.
-use Rattle.std.proofs.Common.{length, take, Ok, refl, sym, ap, ◌∙◌, arith, length-append, lit<}
+use Rattle.std.proofs.Common.{take, Ok, refl, sym, ap, ◌∙◌, arith, lit<}
 use Rattle.nm_wire.specs.Number.{request_magic}
 use Rattle.nm_wire.specs.Layout.{FitsRequestHead, request_head_bytes}
 use Rattle.nm_wire.specs.declared.request_head.RequestHead.{RequestHead}
-use Rattle.nm_wire.proofs.Heads.{other-magic, first-ones, length-request_head_bytes, request_head_bytes-magic, request_head_bytes-unique}
+use Rattle.nm_wire.proofs.Heads.{no-shorter, other-magic, first-ones, length-request_head_bytes, request_head_bytes-magic, request_head_bytes-unique}
 use Rattle.nm_wire.proofs.request_head.RequestHead.get.Goals as goal
 
 pub returns-then-bytes-lt28-clause-reads_back : goal.returns-then-bytes-lt28-clause-reads_back
 returns-then-bytes-lt28-clause-reads_back c head rest fits same =
-    let whole = ap length same ∙ length-append (request_head_bytes head) rest in
-    absurd (omega (arith, whole, length-request_head_bytes head))
+    absurd (omega (arith, no-shorter _ (request_head_bytes head) rest same, length-request_head_bytes head))
 
 pub returns-then-get_u32-ne-REQUEST_MAGIC-clause-reads_back :
     goal.returns-then-get_u32-ne-REQUEST_MAGIC-clause-reads_back

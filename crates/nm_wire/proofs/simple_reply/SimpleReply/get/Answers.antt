@@ -1,15 +1,14 @@
 -- The numbers that were read follow one another; any header that the bytes begin with is this one.
-use Rattle.std.proofs.Common.{length, take, Ok, refl, sym, ap, ◌∙◌, arith, length-append, lit<}
+use Rattle.std.proofs.Common.{take, Ok, refl, sym, ap, ◌∙◌, arith, lit<}
 use Rattle.nm_wire.specs.Number.{simple_reply_magic}
 use Rattle.nm_wire.specs.Layout.{FitsSimpleReply, simple_reply_bytes}
 use Rattle.nm_wire.specs.declared.simple_reply.SimpleReply.{SimpleReply}
-use Rattle.nm_wire.proofs.Heads.{other-magic, first-ones, length-simple_reply_bytes, simple_reply_bytes-magic, simple_reply_bytes-unique}
+use Rattle.nm_wire.proofs.Heads.{no-shorter, other-magic, first-ones, length-simple_reply_bytes, simple_reply_bytes-magic, simple_reply_bytes-unique}
 use Rattle.nm_wire.proofs.simple_reply.SimpleReply.get.Goals as goal
 
 pub returns-then-bytes-lt16-clause-reads_back : goal.returns-then-bytes-lt16-clause-reads_back
 returns-then-bytes-lt16-clause-reads_back c reply rest fits same =
-    let whole = ap length same ∙ length-append (simple_reply_bytes reply) rest in
-    absurd (omega (arith, whole, length-simple_reply_bytes reply))
+    absurd (omega (arith, no-shorter _ (simple_reply_bytes reply) rest same, length-simple_reply_bytes reply))
 
 pub returns-then-get_u32-ne-SIMPLE_REPLY_MAGIC-clause-reads_back :
     goal.returns-then-get_u32-ne-SIMPLE_REPLY_MAGIC-clause-reads_back
