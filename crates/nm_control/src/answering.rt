@@ -2,13 +2,14 @@
 
 use crate::controlled::Controlled;
 use crate::copy_orders::CopyOrders;
-use crate::leg_answers::put_of_leg;
+use crate::leg_answers::{put_attach, put_fail, put_replace};
 use crate::reopening::reopen;
 use crate::replacing::RenewsLegs;
+use crate::retiring::put_retire;
 use crate::stopped::put_stopped;
 use crate::stripe_history::put_history;
 use crate::verify_answers::{put_known, put_verify, put_verify_stop};
-use crate::whole::put_status;
+use crate::whole::{put_pause, put_resume, put_status};
 use nm_commands::{ControlCommand, Fed, LineRoom, control_line};
 use nm_connections::{Quit, SessionPlaces};
 use nm_lanes::Gate;
@@ -142,8 +143,13 @@ fn rate_of(mib: u64) -> u16 {
     mib.min(65_535) as u16
 }
 
-// The answer to a command that tells of something, or to another.
-fn put_told<R: Wait + Clock, L: LegPart, G: Gate + Drop, N: RenewsLegs<L>, M: MakesLegs<L>>(
+// The leg of this number: none has 255 or more.
+fn leg_of(number: u64) -> u8 {
+    number.min(255) as u8
+}
+
+// The answer to a command, other than one that ends the server.
+fn put_answer<R: Wait + Clock, L: LegPart, G: Gate + Drop, N: RenewsLegs<L>, M: MakesLegs<L>>(
     rt: &R,
     alloc: Global,
     command: ControlCommand,
@@ -156,29 +162,25 @@ fn put_told<R: Wait + Clock, L: LegPart, G: Gate + Drop, N: RenewsLegs<L>, M: Ma
         ControlCommand::History(one) => put_history(rt, alloc, server.mirror, stripe_of(one), text),
         ControlCommand::Info => put_info(rt, alloc, server, text),
         ControlCommand::Metrics => put_numbers(rt, alloc, server, text),
-        ControlCommand::Clients => server.sessions.put(rt, text),
-        ControlCommand::CopyRate => put_copy_rate(server.orders, text),
-        _ => put_ordered(rt, alloc, command, server, text),
-    }
-}
-
-// The answer to a command that orders something, or names a leg, and to what is no command.
-fn put_ordered<R: Wait + Clock, L: LegPart, G: Gate + Drop, N: RenewsLegs<L>, M: MakesLegs<L>>(
-    rt: &R,
-    alloc: Global,
-    command: ControlCommand,
-    server: &Controlled<'_, L, G, N, M>,
-    text: &mut String,
-) -> Result<(), AllocError> {
-    match command {
+        ControlCommand::Fail(leg) => put_fail(rt, server, leg_of(leg), text),
+        ControlCommand::Attach(leg) => put_attach(rt, server, leg_of(leg), text),
+        ControlCommand::Replace(leg) => put_replace(rt, alloc, server, leg_of(leg), text),
+        ControlCommand::Retire(leg) => put_retire(rt, server, leg_of(leg), text),
+        ControlCommand::Pause(leg) => put_pause(server.mirror, leg_of(leg), text),
+        ControlCommand::Resume(leg) => put_resume(server.mirror, leg_of(leg), text),
         ControlCommand::Reopen(one) => put_reopen(rt, alloc, server, Some(stripe_of(one)), text),
         ControlCommand::ReopenAll => put_reopen(rt, alloc, server, None, text),
+        ControlCommand::CopyRate => put_copy_rate(server.orders, text),
         ControlCommand::SetCopyRate(mib) => set_copy_rate(server.orders, Some(rate_of(mib)), text),
         ControlCommand::DefaultCopyRate => set_copy_rate(server.orders, None, text),
         ControlCommand::Verify => put_verify(rt, alloc, server, None, text),
+        ControlCommand::VerifyRepair(leg) => put_verify(rt, alloc, server, Some(leg_of(leg)), text),
         ControlCommand::VerifyStop => put_verify_stop(rt, server.orders.verify(), text),
+        ControlCommand::Clients => server.sessions.put(rt, text),
         ControlCommand::Kick(client) => put_kick(rt, server.sessions, client, text),
-        _ => put_of_leg(rt, alloc, command, server, text),
+        ControlCommand::Quit | ControlCommand::QuitWithin(_) | ControlCommand::Bad => {
+            text.push_str("bad command\n")
+        }
     }
 }
 
@@ -193,7 +195,7 @@ fn do_line<R: Wait + Clock, L: LegPart, G: Gate + Drop, N: RenewsLegs<L>, M: Mak
     let put = match control_line(line) {
         ControlCommand::Quit => return say_bye(Quit::WhenTheyLeave, text),
         ControlCommand::QuitWithin(seconds) => return say_bye(Quit::Within(seconds), text),
-        command => put_told(rt, alloc, command, server, text),
+        command => put_answer(rt, alloc, command, server, text),
     };
     match put {
         Ok(()) => After::GoOn,

@@ -1,11 +1,8 @@
-//! The control port's answers to commands that name a leg.
+//! The control port's answers to `fail`, `attach` and `replace` of a leg.
 
 use crate::controlled::Controlled;
 use crate::replacing::{RenewsLegs, Replaced};
-use crate::retiring::{is_retired, put_retire};
-use crate::verify_answers::put_verify;
-use crate::whole::{put_pause, put_resume};
-use nm_commands::ControlCommand;
+use crate::retiring::is_retired;
 use nm_lanes::Gate;
 use nm_leg::LegPart;
 use nm_leg_files::{AttachAnswer, MakesLegs, Unfit};
@@ -41,8 +38,8 @@ fn put_failed(leg: u8, counts: &FailCounts, text: &mut String) -> Result<(), All
     )
 }
 
-// The answer to `fail`.
-fn put_fail<R: Wait + Clock, L: LegPart, G: Gate + Drop, N: RenewsLegs<L>, M: MakesLegs<L>>(
+/// The answer to `fail`.
+pub fn put_fail<R: Wait + Clock, L: LegPart, G: Gate + Drop, N: RenewsLegs<L>, M: MakesLegs<L>>(
     rt: &R,
     server: &Controlled<'_, L, G, N, M>,
     leg: u8,
@@ -89,8 +86,8 @@ fn put_unfit(leg: u8, why: Unfit, text: &mut String) -> Result<(), AllocError> {
     writeln!(text, "attach {leg}: {}", AttachAnswer(why))
 }
 
-// The answer to `attach`.
-fn put_attach<R: Wait + Clock, L: LegPart, G: Gate + Drop, N: RenewsLegs<L>, M: MakesLegs<L>>(
+/// The answer to `attach`.
+pub fn put_attach<R: Wait + Clock, L: LegPart, G: Gate + Drop, N: RenewsLegs<L>, M: MakesLegs<L>>(
     rt: &R,
     server: &Controlled<'_, L, G, N, M>,
     leg: u8,
@@ -112,8 +109,8 @@ fn put_attach<R: Wait + Clock, L: LegPart, G: Gate + Drop, N: RenewsLegs<L>, M: 
     put_saved(rt, server.mirror, text)
 }
 
-// The answer to `replace`.
-fn put_replace<R: Wait + Clock, L: LegPart, G: Gate + Drop, N: RenewsLegs<L>, M: MakesLegs<L>>(
+/// The answer to `replace`.
+pub fn put_replace<R: Wait + Clock, L: LegPart, G: Gate + Drop, N: RenewsLegs<L>, M: MakesLegs<L>>(
     rt: &R,
     alloc: Global,
     server: &Controlled<'_, L, G, N, M>,
@@ -133,64 +130,5 @@ fn put_replace<R: Wait + Clock, L: LegPart, G: Gate + Drop, N: RenewsLegs<L>, M:
     match replaced {
         Replaced::Done(_) => put_saved(rt, server.mirror, text),
         _ => text.push_str("\n"),
-    }
-}
-
-// The leg of this number: none has 255 or more.
-fn leg_of(number: u64) -> u8 {
-    number.min(255) as u8
-}
-
-// The answer to a command on how a leg is copied or repaired, and to what names no leg.
-fn put_of_copies<R: Wait + Clock, L: LegPart, G: Gate + Drop, N: RenewsLegs<L>, M: MakesLegs<L>>(
-    rt: &R,
-    alloc: Global,
-    command: ControlCommand,
-    server: &Controlled<'_, L, G, N, M>,
-    text: &mut String,
-) -> Result<(), AllocError> {
-    match command {
-        ControlCommand::Pause(leg) => put_pause(server.mirror, leg_of(leg), text),
-        ControlCommand::Resume(leg) => put_resume(server.mirror, leg_of(leg), text),
-        ControlCommand::VerifyRepair(leg) => put_verify(rt, alloc, server, Some(leg_of(leg)), text),
-        // What is answered elsewhere, and what is no command.
-        ControlCommand::Status
-        | ControlCommand::Unread
-        | ControlCommand::History(_)
-        | ControlCommand::Info
-        | ControlCommand::Metrics
-        | ControlCommand::Fail(_)
-        | ControlCommand::Attach(_)
-        | ControlCommand::Replace(_)
-        | ControlCommand::Retire(_)
-        | ControlCommand::Reopen(_)
-        | ControlCommand::ReopenAll
-        | ControlCommand::CopyRate
-        | ControlCommand::SetCopyRate(_)
-        | ControlCommand::DefaultCopyRate
-        | ControlCommand::Verify
-        | ControlCommand::VerifyStop
-        | ControlCommand::Quit
-        | ControlCommand::QuitWithin(_)
-        | ControlCommand::Clients
-        | ControlCommand::Kick(_)
-        | ControlCommand::Bad => text.push_str("bad command\n"),
-    }
-}
-
-/// The answer to a command that names a leg; to any other, that it is a bad one.
-pub fn put_of_leg<R: Wait + Clock, L: LegPart, G: Gate + Drop, N: RenewsLegs<L>, M: MakesLegs<L>>(
-    rt: &R,
-    alloc: Global,
-    command: ControlCommand,
-    server: &Controlled<'_, L, G, N, M>,
-    text: &mut String,
-) -> Result<(), AllocError> {
-    match command {
-        ControlCommand::Fail(leg) => put_fail(rt, server, leg_of(leg), text),
-        ControlCommand::Attach(leg) => put_attach(rt, server, leg_of(leg), text),
-        ControlCommand::Replace(leg) => put_replace(rt, alloc, server, leg_of(leg), text),
-        ControlCommand::Retire(leg) => put_retire(rt, server, leg_of(leg), text),
-        _ => put_of_copies(rt, alloc, command, server, text),
     }
 }
