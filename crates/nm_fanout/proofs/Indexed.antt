@@ -314,6 +314,23 @@ ticket-read rs tickets blocks n i ticket x h there read = read
     ∙ ap (λ (l : List ℕ). get_or l i ticket) h.tickets_of
     ∙ field-at (λ r. r.ticket) rs i ticket x there
 
+-- where an indexed list has the ticket its record is
+pub near-ticket : (rs : List Record) (tickets blocks : List ℕ) (n i ticket : ℕ)
+    → AreIndexed rs tickets blocks n → i < length tickets → ticket ≡ get_or tickets i ticket
+    → IsAt ticket i rs
+near-ticket rs tickets blocks n i ticket h within read =
+    let long : length tickets ≡ length rs = ap (λ (l : List ℕ). length l) h.tickets_of
+    ∙ length-fields (λ r. r.ticket) rs in
+    let lt : i < length rs = omega (arith, within, long) in
+    let x = some-at rs i lt in
+    let at : (get_or rs i x.0).ticket ≡ ticket = ap (λ (r : Record). r.ticket) (sym x.2)
+    ∙ sym (ticket-read rs tickets blocks n i ticket x.0 h x.1 read) in
+    record {
+      within = lt;
+      found = find_record-at ticket rs i x.0 (ascends-runs rs h.in_order) lt at
+          ∙ sym (slice_get-get_or rs i x.0 lt);
+    }
+
 -- there are as many blocks as records
 pub length-blocks : (rs : List Record) (tickets blocks : List ℕ) (n : ℕ)
     → AreIndexed rs tickets blocks n → length blocks ≡ length rs

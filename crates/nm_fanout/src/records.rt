@@ -102,6 +102,19 @@ impl Records {
         self.tickets.binary_search(&ticket).ok()
     }
 
+    /// As `find`, but with no search where the record is at the place `near`, as it is at one that an
+    /// earlier call gave, until an older record is claimed.
+    pub fn find_near(&self, ticket: u64, near: usize) -> Option<usize>
+        ensures found { IfSome result (λ place. IsAt ticket place self.now) }
+        ensures absent { IfNone result (find_record ticket self.now ≡ None) }
+        ensures in_order { AreRuns self.now }
+    {
+        if near < self.tickets.len() && self.tickets[near] == ticket {
+            return Some(near);
+        }
+        self.find(ticket)
+    }
+
     /// The record at this place, lent.
     pub fn at(&self, place: usize) -> &Record
         requires within { place < length self.now }

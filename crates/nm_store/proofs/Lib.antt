@@ -4,6 +4,7 @@ pub mod ComparingLemmas
 pub mod CopyLemmas
 pub mod CountLemmas
 pub mod FailoverLemmas
+pub mod FindingLemmas
 pub mod LosingLemmas
 pub mod OpeningLemmas
 pub mod ReachLemmas

@@ -3,6 +3,7 @@ pub mod Comparing
 pub mod CopyPlace
 pub mod Copying
 pub mod Counting
+pub mod Finding
 pub mod Inside
 pub mod Landing
 pub mod Opening

@@ -1,6 +1,6 @@
 //! Why each step is refused: the first condition that holds.
 ghost use Rattle.std.specs.Prelude.{◌≡◌, ◌+◌, ◌<◌, ◌≤◌, ◌^◌, length, max, Some};
-ghost use Rattle.std.specs.Prelude.{None};
+ghost use Rattle.std.specs.Prelude.{None, IfErr, IfOk, OnOk};
 ghost use Rattle.std.specs.Option.{option_map};
 ghost use Rattle.nm_fanout.specs.Records.{busy_among, unlanded};
 ghost use Rattle.nm_regions.specs.declared.copy_place.CopyPlace.{CopyPlace};
@@ -18,6 +18,7 @@ ghost use Rattle.nm_rules.specs.Attach.{attach_cause};
 ghost use Rattle.nm_rules.specs.Copy.{copy_cause};
 ghost use Rattle.nm_rules.specs.Promote.{promote_cause};
 ghost use Rattle.nm_rules.specs.Sync.{sync_cause};
+ghost use Rattle.nm_store.specs.Finding.{place_of};
 
 use crate::store::Store;
 use nm_choice::LegState;
@@ -100,37 +101,44 @@ impl<L: LegPart> Store<L> {
         None
     }
 
-    /// Why the run of this ticket may not be pushed to this leg.
-    pub fn push_cause(&self, ticket: u64, leg: u8) -> Option<Refusal>
-        ensures { result ≡ push_run_cause self.now ticket leg }
+    /// The place of the run of this ticket, where it may be pushed to this leg; else why not.
+    pub fn find_to_push(&self, ticket: u64, leg: u8) -> Result<usize, Refusal>
+        ensures ok { OnOk result (push_run_cause self.now ticket leg ≡ None) }
+        ensures place { IfOk result (λ place. place ≡ place_of ticket self.now.records) }
+        ensures cause { IfErr result (λ refusal.
+            push_run_cause self.now ticket leg ≡ Some refusal) }
     {
         if self.stopped {
-            return Some(Refusal::Stopped);
+            return Err(Refusal::Stopped);
         }
-        let Some(run) = self.records.get(ticket) else {
-            return Some(Refusal::NoTicket);
+        let Some(place) = self.records.find(ticket) else {
+            return Err(Refusal::NoTicket);
         };
+        let run = self.records.at(place);
         if run.owes(leg) {
-            None
+            Ok(place)
         } else {
-            Some(Refusal::NotOwed)
+            Err(Refusal::NotOwed)
         }
     }
 
-    /// Why the run of this ticket may not be claimed.
-    pub fn claim_cause(&self, ticket: u64) -> Option<Refusal>
-        ensures { result ≡ claim_run_cause self.now ticket }
+    /// The place of the run of this ticket, where it may be claimed; else why not.
+    pub fn find_to_claim(&self, ticket: u64) -> Result<usize, Refusal>
+        ensures ok { OnOk result (claim_run_cause self.now ticket ≡ None) }
+        ensures place { IfOk result (λ place. place ≡ place_of ticket self.now.records) }
+        ensures cause { IfErr result (λ refusal. claim_run_cause self.now ticket ≡ Some refusal) }
     {
         if self.stopped {
-            return Some(Refusal::Stopped);
+            return Err(Refusal::Stopped);
         }
-        let Some(run) = self.records.get(ticket) else {
-            return Some(Refusal::NoTicket);
+        let Some(place) = self.records.find(ticket) else {
+            return Err(Refusal::NoTicket);
         };
+        let run = self.records.at(place);
         if run.is_under_way() {
-            Some(Refusal::NotYet)
+            Err(Refusal::NotYet)
         } else {
-            None
+            Ok(place)
         }
     }
 

@@ -1,4 +1,7 @@
 //! A run reaches a leg, takes effect there and is claimed.
+//!
+//! Each call finds the run of its ticket, at once where it is at the place `near` that
+//! `find_to_push` or `find_to_claim` gave; what `near` is changes no answer.
 ghost use Rattle.std.specs.Prelude.{◌≡◌, ℕ, ◌+◌, ◌<◌, ◌≤◌, ◌^◌, ◌==◌, ◌&&◌, length, max, slice_get};
 ghost use Rattle.std.specs.Prelude.{is_none, is_ok, IsSome, None, Some, true};
 ghost use Rattle.nm_fanout.specs.declared.write_record.Record.{Record};
@@ -51,7 +54,7 @@ fn reach_run(regions: &mut Regions, records: &mut Records, place: usize, leg: u8
 
 impl<L: LegPart> Store<L> {
     /// Writes the run of this ticket to the leg, in one call. No more than the leg changes.
-    pub fn write_leg(&mut self, ticket: u64, leg: u8) -> Result<(), LegFault>
+    pub fn write_leg(&mut self, ticket: u64, near: usize, leg: u8) -> Result<(), LegFault>
         requires no_cause { push_run_cause self.old ticket leg ≡ None }
         requires leg { leg < length self.old.legs }
         requires lengths { EachHas L.model self.old.legs self.old.place.blocks }
@@ -59,21 +62,21 @@ impl<L: LegPart> Store<L> {
             self.new.legs ticket leg }
         ensures others { self.new ≡ record self.old { legs = self.new.legs } }
     {
-        let place = self.records.find(ticket).unwrap();
+        let place = self.records.find_near(ticket, near).unwrap();
         let run = self.records.at(place);
         write_leg_at(&mut self.legs, leg, run.block, run.data.bytes())
     }
 
     /// The run of this ticket has reached the leg. At the master it takes effect, under the next
     /// numbers, unless it has before.
-    pub fn reach(&mut self, ticket: u64, leg: u8)
+    pub fn reach(&mut self, ticket: u64, near: usize, leg: u8)
         requires no_cause { push_run_cause self.old ticket leg ≡ None }
         requires numbers { next_number self.old + unlanded self.old.records
             ≤ max (2 ^ 63) self.old.first }
         ensures { self.new ≡ after_push_run self.old self.old.legs
             (of_run ticket self.old.records) leg }
     {
-        let place = self.records.find(ticket).unwrap();
+        let place = self.records.find_near(ticket, near).unwrap();
         let lands = lands_at(self.records.at(place), leg, self.master);
         reach_run(&mut self.regions, &mut self.records, place, leg);
         if lands {
@@ -84,7 +87,7 @@ impl<L: LegPart> Store<L> {
     }
 
     /// Takes the record of the finished run of this ticket away, and names its entries.
-    pub fn claim(&mut self, ticket: u64) -> Claimed
+    pub fn claim(&mut self, ticket: u64, near: usize) -> Claimed
         requires no_cause { claim_run_cause self.old ticket ≡ None }
         requires landed { (r : Record) → find_run ticket self.old.records ≡ Some r
             → IsSome r.entry }
@@ -96,7 +99,7 @@ impl<L: LegPart> Store<L> {
         }) }
         ensures most { result.count ≤ 128 }
     {
-        let place = self.records.find(ticket).unwrap();
+        let place = self.records.find_near(ticket, near).unwrap();
         let run = self.records.at(place);
         let block = run.block;
         let count = run.blocks();
@@ -117,13 +120,13 @@ impl<L: LegPart> Store<L> {
     }
 
     /// Where the run of this ticket stands now: so many legs are owed, and its first entry.
-    pub fn standing(&self, ticket: u64) -> Standing
+    pub fn standing(&self, ticket: u64, near: usize) -> Standing
         requires { IsSome (find_run ticket self.now.records) }
         ensures { (r : Record) → find_record ticket self.now.records ≡ Some r
             → (result.owed ≡ owed_count r) × (result.under_way ≡ is_under_way r)
             × (result.entry ≡ r.entry) }
     {
-        let place = self.records.find(ticket).unwrap();
+        let place = self.records.find_near(ticket, near).unwrap();
         let run = self.records.at(place);
         Standing {
             owed: run.owed_count(),

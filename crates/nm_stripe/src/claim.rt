@@ -20,10 +20,8 @@ impl<L: LegPart> Stripe<L> {
         ensures cause { IfErr result (λ refusal. claim_run_cause self.old ticket ≡ Some refusal) }
         ensures stays { OnErr result (self.new ≡ self.old) }
     {
-        if let Some(refusal) = self.store.claim_cause(ticket) {
-            return Err(refusal);
-        }
-        let claimed = self.store.claim(ticket);
+        let near = self.store.find_to_claim(ticket)?;
+        let claimed = self.store.claim(ticket, near);
         Ok(Written::new(
             self.store.place().stripe,
             claimed.block,

@@ -29,14 +29,14 @@ pub enum Reach {
 
 /// The answer of a push that reached its leg.
 #[inline(always)]
-fn reach_of<L: LegPart>(store: &Store<L>, ticket: u64) -> Reach
+fn reach_of<L: LegPart>(store: &Store<L>, ticket: u64, near: usize) -> Reach
     requires run { IsSome (find_run ticket store.now.records) }
     requires record { IsSome (find_record ticket store.now.records) }
     requires landed { (r : Record) → find_record ticket store.now.records ≡ Some r
         → is_under_way r ≡ false → IsSome r.entry }
     ensures { IsReached store.now ticket result }
 {
-    let standing = store.standing(ticket);
+    let standing = store.standing(ticket, near);
     if standing.under_way {
         Reach::Pushed(standing.owed)
     } else {
@@ -61,12 +61,10 @@ impl<L: LegPart> Stripe<L> {
             push_run_cause self.old ticket leg ≡ Some refusal) }
         ensures stays { OnErr result (self.new ≡ self.old) }
     {
-        if let Some(refusal) = self.store.push_cause(ticket, leg) {
-            return Err(refusal);
-        }
-        if self.store.write_leg(ticket, leg).is_ok() {
-            self.store.reach(ticket, leg);
-            return Ok(reach_of(&self.store, ticket));
+        let near = self.store.find_to_push(ticket, leg)?;
+        if self.store.write_leg(ticket, near, leg).is_ok() {
+            self.store.reach(ticket, near, leg);
+            return Ok(reach_of(&self.store, ticket, near));
         }
         if self.store.is_last(leg) {
             self.store.stop();

@@ -20,14 +20,14 @@ use Rattle.nm_store.proofs.store.Store.claim.Goals as goal
 pub unwrap-place-requires : goal.unwrap-place-requires
 unwrap-place-requires g c =
     let none : claim_run_cause (state_of c.self.inside) c.args.ticket ≡ None = subst (λ (s : StripeState _). claim_run_cause s c.args.ticket ≡ None) (sym c.self.view_is) c.requires.no_cause in
-    place-some c.args.ticket c.self.inside.records c.find.result c.find.ensures.absent c.find.ensures.in_order.runs (claim-some (state_of c.self.inside) c.args.ticket none)
+    place-some c.args.ticket c.self.inside.records c.find_near.result c.find_near.ensures.absent c.find_near.ensures.in_order.runs (claim-some (state_of c.self.inside) c.args.ticket none)
 
 pub claim_at-number-requires : goal.claim_at-number-requires
 claim_at-number-requires g c =
     let rs = c.self.inside.records in
     let x = c.at-run.result.now in
-    let at = place-at c.args.ticket rs c.find.result c.unwrap-place.result c.find.ensures.found c.unwrap-place.ensures in
-    let run = run-there c.args.ticket c.unwrap-place.result rs x c.find.ensures.in_order at c.at-run.ensures.found in
+    let at = place-at c.args.ticket rs c.find_near.result c.unwrap-place.result c.find_near.ensures.found c.unwrap-place.ensures in
+    let run = run-there c.args.ticket c.unwrap-place.result rs x c.find_near.ensures.in_order at c.at-run.ensures.found in
     let landed = c.requires.landed run.block.first (ap (λ (s : StripeState _). find_run c.args.ticket s.records) (sym c.self.view_is) ∙ run.first) in
     record {
       landed = subst (λ (o : Option Record). IsSome (option_and_then (λ (r : Record). r.entry) o)) (sym c.at-run.ensures.found)
@@ -40,13 +40,13 @@ invariant_of-self g c =
     let rs = c.self.inside.records in
     let x = c.at-run.result.now in
     let none : claim_run_cause old c.args.ticket ≡ None = subst (λ (s : StripeState _). claim_run_cause s c.args.ticket ≡ None) (sym c.self.view_is) c.requires.no_cause in
-    let at = place-at c.args.ticket rs c.find.result c.unwrap-place.result c.find.ensures.found c.unwrap-place.ensures in
-    let run = run-there c.args.ticket c.unwrap-place.result rs x c.find.ensures.in_order at c.at-run.ensures.found in
+    let at = place-at c.args.ticket rs c.find_near.result c.unwrap-place.result c.find_near.ensures.found c.unwrap-place.ensures in
+    let run = run-there c.args.ticket c.unwrap-place.result rs x c.find_near.ensures.in_order at c.at-run.ensures.found in
     let over = run-is_over x run.block (claim-over old c.args.ticket run.block.first none run.first) in
     let list : c.claim_at-number.new.self ≡ without c.args.ticket rs = c.claim_at-number.ensures.records c.args.ticket at in
     record {
       regions = table-of c.self.inside.regions (record old { records = flat (without c.args.ticket rs) }) (flat c.claim_at-number.new.self)
-          (c.self.invariant.regions ∙ claimed-counts old rs c.args.ticket c.unwrap-place.result x refl c.find.ensures.in_order at c.at-run.ensures.found over)
+          (c.self.invariant.regions ∙ claimed-counts old rs c.args.ticket c.unwrap-place.result x refl c.find_near.ensures.in_order at c.at-run.ensures.found over)
           (ap (λ (l : List Record). flat l) list);
       states = c.self.invariant.states;
       flags = c.self.invariant.flags;
@@ -60,12 +60,12 @@ returns g c =
     let rs = c.self.inside.records in
     let x = c.at-run.result.now in
     let none : claim_run_cause old c.args.ticket ≡ None = subst (λ (s : StripeState _). claim_run_cause s c.args.ticket ≡ None) (sym c.self.view_is) c.requires.no_cause in
-    let at = place-at c.args.ticket rs c.find.result c.unwrap-place.result c.find.ensures.found c.unwrap-place.ensures in
-    let run = run-there c.args.ticket c.unwrap-place.result rs x c.find.ensures.in_order at c.at-run.ensures.found in
+    let at = place-at c.args.ticket rs c.find_near.result c.unwrap-place.result c.find_near.ensures.found c.unwrap-place.ensures in
+    let run = run-there c.args.ticket c.unwrap-place.result rs x c.find_near.ensures.in_order at c.at-run.ensures.found in
     let over = run-is_over x run.block (claim-over old c.args.ticket run.block.first none run.first) in
     let list : c.claim_at-number.new.self ≡ without c.args.ticket rs = c.claim_at-number.ensures.records c.args.ticket at in
     let entry : x.entry ≡ Some c.claim_at-number.result = entry-there c.unwrap-place.result c.claim_at-number.result rs x c.at-run.ensures.found c.claim_at-number.ensures.number in
-    let gone = claiming c.args.ticket c.unwrap-place.result rs c.find.ensures.in_order at in
+    let gone = claiming c.args.ticket c.unwrap-place.result rs c.find_near.ensures.in_order at in
     let are : AreFinished c.args.ticket x.block c.claim_at-number.result (of_run c.args.ticket old.records) old.records =
     subst (λ (t : ℕ). AreFinished t x.block c.claim_at-number.result (of_run c.args.ticket old.records) old.records) run.ticket
     (subst (λ (os : List Record). AreFinished x.ticket x.block c.claim_at-number.result os old.records) (sym run.members) (are-finished x c.claim_at-number.result old.records over entry run.found)) in

@@ -13,14 +13,14 @@ use Rattle.nm_store.proofs.store.Store.standing.Goals as goal
 pub unwrap-place-requires : goal.unwrap-place-requires
 unwrap-place-requires g c =
     let some : IsSome (find_run c.args.ticket (state_of c.self.inside).records) = subst (λ (s : StripeState _). IsSome (find_run c.args.ticket s.records)) (sym c.self.view_is) c.requires in
-    place-some c.args.ticket c.self.inside.records c.find.result c.find.ensures.absent c.find.ensures.in_order.runs some
+    place-some c.args.ticket c.self.inside.records c.find_near.result c.find_near.ensures.absent c.find_near.ensures.in_order.runs some
 
 pub returns : goal.returns
 returns g c = λ r found.
     let rs = c.self.inside.records in
     let x = c.at-run.result.now in
-    let at = place-at c.args.ticket rs c.find.result c.unwrap-place.result c.find.ensures.found c.unwrap-place.ensures in
-    let run = run-there c.args.ticket c.unwrap-place.result rs x c.find.ensures.in_order at c.at-run.ensures.found in
+    let at = place-at c.args.ticket rs c.find_near.result c.unwrap-place.result c.find_near.ensures.found c.unwrap-place.ensures in
+    let run = run-there c.args.ticket c.unwrap-place.result rs x c.find_near.ensures.in_order at c.at-run.ensures.found in
     let same : run.block.first ≡ r = same_Some run.block.first r (sym run.record_found ∙ ap (λ (s : StripeState _). find_record c.args.ticket s.records) c.self.view_is ∙ found) in
     let owed : x.owed ≡ r.owed = sym run.block.owed ∙ ap (λ (q : Record). q.owed) same in (
       c.owed_count.ensures.count ∙ ap (λ (os : List Bool). count_by (λ (o : Bool). o) os) owed,

@@ -22,7 +22,7 @@ use Rattle.nm_store.proofs.store.Store.write_leg.Goals as goal
 pub unwrap-place-requires : goal.unwrap-place-requires
 unwrap-place-requires g c =
     let none : push_run_cause (state_of c.self.inside) c.args.ticket c.args.leg ≡ None = subst (λ (s : StripeState _). push_run_cause s c.args.ticket c.args.leg ≡ None) (sym c.self.view_is) c.requires.no_cause in
-    place-some c.args.ticket c.self.inside.records c.find.result c.find.ensures.absent c.find.ensures.in_order.runs (push-some (state_of c.self.inside) c.args.ticket c.args.leg none)
+    place-some c.args.ticket c.self.inside.records c.find_near.result c.find_near.ensures.absent c.find_near.ensures.in_order.runs (push-some (state_of c.self.inside) c.args.ticket c.args.leg none)
 
 pub bytes-requires : goal.bytes-requires
 bytes-requires g c = record {
@@ -52,8 +52,8 @@ returns-clause-called g c =
     let x = c.at-run.result.now in
     let type = leg_type g.L.LegPart.model g.L.LegPart.honest in
     let none : push_run_cause old c.args.ticket c.args.leg ≡ None = subst (λ (s : StripeState _). push_run_cause s c.args.ticket c.args.leg ≡ None) (sym c.self.view_is) c.requires.no_cause in
-    let at = place-at c.args.ticket rs c.find.result c.unwrap-place.result c.find.ensures.found c.unwrap-place.ensures in
-    let run = run-there c.args.ticket c.unwrap-place.result rs x c.find.ensures.in_order at c.at-run.ensures.found in
+    let at = place-at c.args.ticket rs c.find_near.result c.unwrap-place.result c.find_near.ensures.found c.unwrap-place.ensures in
+    let run = run-there c.args.ticket c.unwrap-place.result rs x c.find_near.ensures.in_order at c.at-run.ensures.found in
     let owes = run-owes c.args.leg x run.block (push-owes old c.args.ticket c.args.leg run.block.first none run.first) in
     let are : AreOwed c.args.ticket x.block c.args.leg (of_run c.args.ticket old.records) old.records =
     subst (λ (t : ℕ). AreOwed t x.block c.args.leg (of_run c.args.ticket old.records) old.records) run.ticket
