@@ -1,5 +1,5 @@
 -- A leg that may be called in sync holds the array at each block that no record of a write is of.
-use Rattle.std.proofs.Common.{◌≡◌, ◌≢◌, ⊎_elim, inl, ℕ, ◌<◌, arith, Bool, true, false, IsTrue, List, [], ◌∷◌, None, Some, refl, sym, ap, ◌∙◌, subst, slice_index_or}
+use Rattle.std.proofs.Common.{◌≡◌, ◌≢◌, ⊎_elim, inl, ℕ, ◌<◌, arith, Bool, true, false, IsTrue, List, [], ◌∷◌, Option, None, Some, refl, sym, ap, ◌∙◌, subst, slice_index_or}
 use Rattle.nm_choice.specs.declared.leg_state.LegState.TheVariants as state
 use Rattle.nm_fanout.specs.Records.{busy_on}
 use Rattle.nm_leg.specs.Leg.{LegType}
@@ -21,11 +21,13 @@ use Rattle.nm_stripe.proofs.StepLemmas.{step-keeps}
 use Rattle.nm_gate.specs.Durable.{Durable, is_named}
 use Rattle.nm_gate.specs.Gate.{Allows, IsSaved}
 use Rattle.nm_gate.specs.Held.{NoneOn}
-use Rattle.nm_gate.specs.Moves.{Clears, Does, Gated, GatedRuns, Move, MoveOf, NoneStop, Saves, Unmarks}
+use Rattle.nm_gate.specs.Looking.{LooksAt}
+use Rattle.nm_gate.specs.Moves.{Clears, Does, Gated, GatedRuns, Looks, Move, MoveOf, NoneStop, Saves, Unmarks}
 use Rattle.nm_gate.specs.Saves.{Resaves}
 use Rattle.nm_gate.specs.Survive.{AnsweredSurvive, NamedHold, Stands}
 use Rattle.nm_gate.proofs.LegParts.{in_sync-joining}
 use Rattle.nm_gate.proofs.LegsLeft.{LegsLeft, any, but}
+use Rattle.nm_gate.proofs.Looked.{looked-free, looked-inside, looked-keeps, looked-left, looked-stands, looked-was_none}
 use Rattle.nm_gate.proofs.StepsLeft.{free_of, other_of, step-left}
 use Rattle.nm_gate.proofs.Guarded.{array-stays, named-other, promoted-in_sync, step-apart}
 use Rattle.nm_gate.proofs.Untouched.{none-busy, step-none}
@@ -72,6 +74,8 @@ module _ {L : Type 0} (type : LegType L) (is_honest : IsTrue type.honest) where
   pub move-stands : (move : Move L) (moves : List (Move L)) (old new : Gated L) → Stands type old.stripe old.durable → MoveOf type move old new → NoneStop (move ∷ moves) → Stands type new.stripe new.durable
   move-stands (Does step answer) moves old new s is goes =
       subst (λ (n : Durable). Stands type new.stripe n) (sym is.durable) (step-stands old.stripe new.stripe old.durable s step answer goes.0 is.allowed is.asked is.does)
+  move-stands (Looks leg block found) moves old new s is goes =
+      subst (λ (n : Durable). Stands type new.stripe n) (sym is.1) (looked-stands type leg block found old.stripe new.stripe is.0 is_honest old.durable s)
   move-stands (Saves saved) moves old new s is goes =
       subst (λ (n : Durable). Stands type new.stripe n) (sym is.2) (subst (λ (x : StripeState L). Stands type x saved) (sym is.1) (saved-stands old.stripe old.stripe old.durable s saved is.0))
   move-stands (Clears cleared) moves old new s is goes =
@@ -80,6 +84,7 @@ module _ {L : Type 0} (type : LegType L) (is_honest : IsTrue type.honest) where
   -- the others stop none either
   pub stop-later : (move : Move L) (moves : List (Move L)) → NoneStop (move ∷ moves) → NoneStop moves
   stop-later (Does step answer) moves goes = goes.1
+  stop-later (Looks leg block found) moves goes = goes
   stop-later (Saves saved) moves goes = goes
   stop-later (Clears cleared) moves goes = goes
 
@@ -139,6 +144,13 @@ module _ {L : Type 0} (type : LegType L) (is_honest : IsTrue type.honest) where
     step-held_after (Sync leg) answer goes allowed asked is = other-step (Sync leg) answer (λ t e. cc) goes allowed asked is
     step-held_after (Flush leg) answer goes allowed asked is = other-step (Flush leg) answer (λ t e. cc) goes allowed asked is
 
+    looked-held : (leg block : ℕ) (found : Option (List ℕ)) → LooksAt type leg block found old new → NamedHold type new d
+    looked-held leg block found is j b named within none =
+        let was_none = looked-was_none type leg block found old new is b none in
+        let was_free = none-busy b old.records was_none in
+        other-held (looked-keeps type leg block found old new is s.keeps) b (looked-inside type leg block found old new is b within) within was_free (looked-free type leg block found old new is b was_free) was_none
+        any any (looked-left type leg block found old new is is_honest b) j tt named
+
     saved-held : (saved : Durable) → Resaves old d saved → NamedHold type old saved
     saved-held saved is leg b named inside none =
         ⊎_elim
@@ -153,6 +165,8 @@ module _ {L : Type 0} (type : LegType L) (is_honest : IsTrue type.honest) where
       → NamedHold type new.stripe new.durable
   move-held (Does step answer) moves old new s hold is goes =
       subst (λ (n : Durable). NamedHold type new.stripe n) (sym is.durable) (step-held_after old.stripe new.stripe old.durable s hold step answer goes.0 is.allowed is.asked is.does)
+  move-held (Looks leg block found) moves old new s hold is goes =
+      subst (λ (n : Durable). NamedHold type new.stripe n) (sym is.1) (looked-held old.stripe new.stripe old.durable s hold leg block found is.0)
   move-held (Saves saved) moves old new s hold is goes =
       subst (λ (n : Durable). NamedHold type new.stripe n) (sym is.2) (subst (λ (x : StripeState L). NamedHold type x saved) (sym is.1) (saved-held old.stripe old.stripe old.durable s hold saved is.0))
   move-held (Clears cleared) moves old new s hold is goes =

@@ -179,10 +179,10 @@ module _ {L : Type 0} (type : LegType L) (old new : StripeState L) (b : ℕ) (fr
     run_read-contents : (succeeded : Bool) (leg at : ℕ) (found : List Block) → ReadsRunAt type succeeded leg at found old.legs new.legs → SameContents
     run_read-contents succeeded leg at found r = call-contents leg r.before r.after r.change (ap (λ xs. slice_get xs b) (r.reads.contents is_honest))
 
-    run_read-durable : (succeeded : Bool) (leg at : ℕ) (found : List Block) → ReadsRunAt type succeeded leg at found old.legs new.legs → SameDurable
+    pub run_read-durable : (succeeded : Bool) (leg at : ℕ) (found : List Block) → ReadsRunAt type succeeded leg at found old.legs new.legs → SameDurable
     run_read-durable succeeded leg at found r = call-durable leg r.before r.after r.change (ap (λ xs. slice_get xs b) (r.reads.durable is_honest))
 
-    run_read-left : (succeeded : Bool) (leg at : ℕ) (found : List Block) → ReadsRunAt type succeeded leg at found old.legs new.legs → new.stopped ≡ old.stopped → new.states ≡ old.states → LegsLeft type b any free old new
+    pub run_read-left : (succeeded : Bool) (leg at : ℕ) (found : List Block) → ReadsRunAt type succeeded leg at found old.legs new.legs → new.stopped ≡ old.stopped → new.states ≡ old.states → LegsLeft type b any free old new
     run_read-left succeeded leg at found r stopped states =
         quiet stopped states (run_read-contents succeeded leg at found r) (both-stay (run_read-contents succeeded leg at found r) (run_read-durable succeeded leg at found r))
 

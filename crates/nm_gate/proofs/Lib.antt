@@ -8,6 +8,7 @@ pub mod Guarded
 pub mod LegParts
 pub mod LegsLeft
 pub mod Listed
+pub mod Looked
 pub mod MarkedStarts
 pub mod Reopened
 pub mod Runs

@@ -13,11 +13,12 @@ use Rattle.nm_stripe.specs.declared.step.Step.TheVariants.{Attach, Return, Repla
 use Rattle.nm_stripe.specs.Run.{NoneHalted, StepOf}
 use Rattle.nm_gate.specs.Durable.{Durable, is_listed}
 use Rattle.nm_gate.specs.Gate.{Allows}
-use Rattle.nm_gate.specs.Moves.{Clears, Does, Gated, GatedRuns, Move, MoveOf, NoneStop, Saves, Unmarks}
+use Rattle.nm_gate.specs.Moves.{Clears, Does, Gated, GatedRuns, Looks, Move, MoveOf, NoneStop, Saves, Unmarks}
 use Rattle.nm_gate.specs.Saves.{AllListed}
 use Rattle.nm_gate.specs.Survive.{ListedStay, Stands}
 use Rattle.nm_gate.proofs.Acknowledged.{move-stands, past-free, stop-later}
 use Rattle.nm_gate.proofs.Guarded.{joins-not}
+use Rattle.nm_gate.proofs.Looked.{looked-left}
 use Rattle.nm_gate.proofs.LegsLeft.{LegsLeft, any, but}
 use Rattle.nm_gate.proofs.StepsLeft.{free_of, other_of, step-left}
 
@@ -55,6 +56,9 @@ module _ {L : Type 0} (type : LegType L) (is_honest : IsTrue type.honest) where
   move-listed : (move : Move L) (moves : List (Move L)) (old new : Gated L) → Stands type old.stripe old.durable → AllListed old.stripe old.durable → MoveOf type move old new → NoneStop (move ∷ moves) → AllListed new.stripe new.durable
   move-listed (Does step answer) moves old new s all is goes =
       subst (λ (n : Durable). AllListed new.stripe n) (sym is.durable) (done-listed old.stripe new.stripe old.durable s all step answer goes.0 is.allowed is.does)
+  move-listed (Looks leg block found) moves old new s all is goes =
+      subst (λ (n : Durable). AllListed new.stripe n) (sym is.1)
+      (λ j in_sync. other-listed old.stripe new.stripe old.durable s all 0 any any (looked-left type leg block found old.stripe new.stripe is.0 is_honest 0) j tt in_sync)
   move-listed (Saves saved) moves old new s all is goes =
       subst (λ (n : Durable). AllListed new.stripe n) (sym is.2) (subst (λ (x : StripeState L). AllListed x saved) (sym is.1) (λ leg in_sync. is.0.listed leg in_sync (all leg in_sync)))
   move-listed (Clears cleared) moves old new s all is goes =

@@ -1,5 +1,5 @@
 -- Moves one after the other: what was flushed stays on each leg that may be called in sync.
-use Rattle.std.proofs.Common.{◌≡◌, ⊎_elim, inl, inr, ℕ, ◌<◌, length, Bool, true, false, IsTrue, List, [], ◌∷◌, None, Some, refl, sym, ap, ◌∙◌, subst, slice_get, slice_index_or}
+use Rattle.std.proofs.Common.{◌≡◌, ⊎_elim, inl, inr, ℕ, ◌<◌, length, Bool, true, false, IsTrue, List, [], ◌∷◌, Option, None, Some, refl, sym, ap, ◌∙◌, subst, slice_get, slice_index_or}
 use Rattle.nm_choice.specs.declared.leg_state.LegState.{LegState}
 use Rattle.nm_choice.specs.declared.leg_state.LegState.TheVariants.{Out}
 use Rattle.nm_choice.specs.declared.leg_state.LegState.TheVariants as state
@@ -21,13 +21,15 @@ use Rattle.nm_stripe.proofs.RunLemmas.{step-shape}
 use Rattle.nm_stripe.proofs.StepLemmas.{step-keeps}
 use Rattle.nm_gate.specs.Durable.{Durable, is_named}
 use Rattle.nm_gate.specs.Gate.{Allows, IsSaved}
-use Rattle.nm_gate.specs.Moves.{AllLeave, Clears, Does, Gated, GatedRuns, Leaves, Move, MoveOf, Saves, SomeSyncs, SyncsOne, Unmarks}
+use Rattle.nm_gate.specs.Looking.{LooksAt}
+use Rattle.nm_gate.specs.Moves.{AllLeave, Clears, Does, Gated, GatedRuns, Leaves, Looks, Move, MoveOf, Saves, SomeSyncs, SyncsOne, Unmarks}
 use Rattle.nm_gate.specs.Saves.{Resaves}
 use Rattle.nm_gate.specs.Survive.{FlushedSurvive, Stands}
 use Rattle.nm_gate.proofs.LegParts.{in_sync-joining}
 use Rattle.nm_gate.proofs.LegsLeft.{LegsLeft, any}
 use Rattle.nm_gate.proofs.StepsLeft.{free_of, other_of, step-left}
-use Rattle.nm_gate.proofs.Guarded.{Guards, out-guards, step-apart, step-array, step-guards, synced-guards}
+use Rattle.nm_gate.proofs.Looked.{looked-count, looked-free, looked-keeps, looked-left, looked-stands, looked-within}
+use Rattle.nm_gate.proofs.Guarded.{Guards, array-stays, guards-other, out-guards, step-apart, step-array, step-guards, synced-guards}
 
 -- a sync that is refused as AlreadyOut is of a leg that is out
 out-bits : (stopped out : Bool) → first_cause (when stopped Stopped ∷ when out AlreadyOut ∷ []) ≡ Some AlreadyOut → out ≡ true
@@ -78,6 +80,21 @@ module _ {L : Type 0} (type : LegType L) (b : ℕ) (is_honest : IsTrue type.hone
           guards = λ j guards counts. guards (⊎_elim (λ named. inl (was j named)) (λ in_sync. inr in_sync) counts);
         }
 
+    looked-behind : (leg block : ℕ) (found : Option (List ℕ)) → LooksAt type leg block found old new → Behind type b old d new d
+    looked-behind leg block found is =
+        let k = looked-keeps type leg block found old new is s.keeps in
+        let within = looked-within type leg block found old new is b inside in
+        let is_free = looked-free type leg block found old new is b free in
+        let left = looked-left type leg block found old new is is_honest b in
+        record {
+          stands = looked-stands type leg block found old new is is_honest d s;
+          inside = within;
+          free = is_free;
+          count = looked-count type leg block found old new is;
+          array = array-stays type old new d b is_honest s k inside within free is_free any any left;
+          guards = λ j guards. guards-other type old new d b is_honest s k inside within free is_free any any left j tt guards;
+        }
+
     module _ (step : Step L) (answer : Answer L) (allowed : Allows d old step) (asked : MayBeAsked type.model old step) (is : StepOf type step answer old new) (leaves : Leaves b (Does step answer)) where
       keeps : Keeps type new
       keeps = step-keeps type step answer old new s.keeps asked is
@@ -110,6 +127,9 @@ module _ {L : Type 0} (type : LegType L) (b : ℕ) (is_honest : IsTrue type.hone
   behind (Does step answer) old new s inside free leaves is =
       subst (λ (n : Durable). Behind type b old.stripe old.durable new.stripe n) (sym is.durable)
       (step-behind old.stripe new.stripe old.durable s inside free step answer is.allowed is.asked is.does leaves)
+  behind (Looks leg block found) old new s inside free leaves is =
+      subst (λ (n : Durable). Behind type b old.stripe old.durable new.stripe n) (sym is.1)
+      (looked-behind old.stripe new.stripe old.durable s inside free leg block found is.0)
   behind (Saves saved) old new s inside free leaves is =
       subst (λ (n : Durable). Behind type b old.stripe old.durable new.stripe n) (sym is.2)
       (subst (λ (x : StripeState L). Behind type b old.stripe old.durable x saved) (sym is.1) (saved-behind old.stripe new.stripe old.durable s inside free saved is.0))
@@ -149,6 +169,7 @@ module _ {L : Type 0} (type : LegType L) (b : ℕ) (is_honest : IsTrue type.hone
       → Guards type new.stripe new.durable j b
   move-makes (Does step answer) j old new s inside free leaves synced is =
       subst (λ (n : Durable). Guards type new.stripe n j b) (sym is.durable) (step-makes step answer j old.stripe new.stripe old.durable s inside free leaves synced is.allowed is.asked is.does)
+  move-makes (Looks leg block found) j old new s inside free leaves synced is = absurd synced
   move-makes (Saves saved) j old new s inside free leaves synced is = absurd synced
   move-makes (Clears cleared) j old new s inside free leaves synced is = absurd synced
 

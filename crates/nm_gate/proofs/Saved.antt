@@ -11,7 +11,7 @@ use Rattle.nm_rules.specs.State.{StripeState, leg_state}
 use Rattle.nm_rules.proofs.StateLemmas.{in_sync_inside}
 use Rattle.nm_gate.specs.declared.leg_claims.LegClaims.{LegClaims}
 use Rattle.nm_gate.specs.Bounds.{IsTaken, IsWidened}
-use Rattle.nm_gate.specs.Changes.{Ends, Leads, MayEnd, failed, widened}
+use Rattle.nm_gate.specs.Changes.{Ends, Leads, MayEnd, Resaved, failed, widened}
 use Rattle.nm_gate.specs.Claims.{HasMarks, claims_of, has, is_current_leg, is_listed_by, is_partial, legs_where, superblock_of}
 use Rattle.nm_gate.specs.Durable.{Durable, is_lacking, is_listed, is_marked, is_named}
 use Rattle.nm_gate.specs.Moves.{Gated, Saves}
@@ -80,14 +80,24 @@ saved-leads {L} type stripe d e is =
     let new : Gated L = record { stripe = stripe; durable = e } in
     (Saves e ∷ [], (new, (is, refl, refl), refl), λ block. (tt, tt))
 
--- and so it is where it failed
-pub failed-leads : {L : Type 0} (type : LegType L) (stripe : StripeState L) (d : Durable) → Leads type stripe (Some d) stripe (Some (failed d))
-failed-leads type stripe d = saved-leads type stripe d (failed d) (record {
+-- what a save changes, with the bounds as a function's ends say them
+pub resaved : {L : Type 0} (stripe : StripeState L) (durable : Option Durable) (d e : Durable) → durable ≡ Some d → Resaves stripe d e → Resaved stripe durable (Some e)
+resaved stripe durable d e was is = subst (λ (o : Option Durable). Resaved stripe o (Some e)) (sym was) is
+
+failed-resaves : {L : Type 0} (stripe : StripeState L) (d : Durable) → Resaves stripe d (failed d)
+failed-resaves stripe d = record {
   named = λ leg named. inl named;
   lacking = λ leg lacking. inr (inl lacking);
   listed = λ leg in_sync listed. listed;
   marked = λ region marked. marked;
-})
+}
+
+pub failed-resaved : {L : Type 0} (stripe : StripeState L) (durable : Option Durable) (d e : Durable) → durable ≡ Some d → e ≡ failed d → Resaved stripe durable (Some e)
+failed-resaved stripe durable d e was is = resaved stripe durable d e was (subst (λ (x : Durable). Resaves stripe d x) (sym is) (failed-resaves stripe d))
+
+-- and so it is where it failed
+pub failed-leads : {L : Type 0} (type : LegType L) (stripe : StripeState L) (d : Durable) → Leads type stripe (Some d) stripe (Some (failed d))
+failed-leads type stripe d = saved-leads type stripe d (failed d) (failed-resaves stripe d)
 
 -- so with the bounds as a function's ends say them
 pub failed-leads-as : {L : Type 0} (type : LegType L) (stripe : StripeState L) (durable : Option Durable) (d e : Durable) → durable ≡ Some d → e ≡ failed d → Leads type stripe durable stripe (Some e)
@@ -165,18 +175,25 @@ begun-bounds model stripe durable d marked claims was marks is named lacking =
     (λ legs. subst (λ (x : LegClaims). IsTaken stripe d (superblock_of x marked d) × IsWidened d (superblock_of x marked d) (widened x d)) (sym is)
     (is-taken model stripe d marked legs had, is-widened d (claims_of stripe d marked) marked named lacking refl refl))
 
+-- as a save may
+pub begun-resaves : {L : Type 0} (model : L → Leg) (stripe : StripeState L) (durable : Option Durable) (d e : Durable) (marked : List Bool) (claims : LegClaims) → durable ≡ Some d
+    → HasMarks durable marked → claims ≡ claims_of stripe d marked → length d.named ≡ 8 → length d.lacking ≡ 8 → e ≡ widened claims d
+    → HasLegs model stripe → Resaves stripe d e
+begun-resaves model stripe durable d e marked said was marks is named lacking leaves legs =
+    let had : HasMarks (Some d) marked = subst (λ (o : Option Durable). HasMarks o marked) was marks in
+    let taken = is-taken model stripe d marked legs had in
+    let wide = is-widened d (claims_of stripe d marked) marked named lacking refl refl in
+    let resaves = ((saves-safe model).begins stripe d (superblock_of (claims_of stripe d marked) marked d) (widened (claims_of stripe d marked) d) [] tt taken wide).0 in
+    let end : widened (claims_of stripe d marked) d ≡ e = sym (leaves ∙ ap (λ (x : LegClaims). widened x d) is) in
+    subst (λ (x : Durable). Resaves stripe d x) end resaves
+
 -- and that is a move
 pub begun-leads : {L : Type 0} (type : LegType L) (stripe : StripeState L) (durable : Option Durable) (d e : Durable) (marked : List Bool) (claims : LegClaims) → durable ≡ Some d
     → HasMarks durable marked → claims ≡ claims_of stripe d marked → length d.named ≡ 8 → length d.lacking ≡ 8 → e ≡ widened claims d
     → HasLegs type.model stripe → Leads type stripe durable stripe (Some e)
 begun-leads type stripe durable d e marked said was marks is named lacking leaves legs =
-    let had : HasMarks (Some d) marked = subst (λ (o : Option Durable). HasMarks o marked) was marks in
-    let taken = is-taken type.model stripe d marked legs had in
-    let wide = is-widened d (claims_of stripe d marked) marked named lacking refl refl in
-    let resaves = ((saves-safe type.model).begins stripe d (superblock_of (claims_of stripe d marked) marked d) (widened (claims_of stripe d marked) d) [] tt taken wide).0 in
-    let end : widened (claims_of stripe d marked) d ≡ e = sym (leaves ∙ ap (λ (x : LegClaims). widened x d) is) in
     subst (λ (o : Option Durable). Leads type stripe o stripe (Some e)) (sym was)
-    (saved-leads type stripe d e (subst (λ (x : Durable). Resaves stripe d x) end resaves))
+    (saved-leads type stripe d e (begun-resaves type.model stripe durable d e marked said was marks is named lacking leaves legs))
 
 not-or : (a b : Bool) → (not a || b) ≡ true → a ≡ true → b ≡ true
 not-or true b on is = on
@@ -225,7 +242,7 @@ module _ {L : Type 0} (type : LegType L) (stripe : StripeState L) (d e : Durable
       let spans : e.span ≡ d.span = ap (λ (x : Durable). x.span) is.after in
       ap (λ (n : ℕ). slice_index_or e.marked (region / n) false) spans ∙ is.marks span there ∙ may.marks span on
 
-  ended : Resaves stripe d e
+  pub ended : Resaves stripe d e
   ended = record { named = named-said; lacking = lacking-said; listed = listed-said; marked = marked-said }
 
   -- a save that ends is a move

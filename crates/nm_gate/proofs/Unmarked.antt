@@ -1,5 +1,5 @@
 -- Outside marked spans the legs that are covered stay equal, and a span that has cooled may be unmarked.
-use Rattle.std.proofs.Common.{◌≡◌, ⊎_elim, inl, inr, ℕ, ◌/◌, ◌<◌, arith, length, Bool, true, false, IsTrue, List, [], ◌∷◌, None, refl, sym, ap, ◌∙◌, subst, slice_get, slice_index_or}
+use Rattle.std.proofs.Common.{◌≡◌, ⊎_elim, inl, inr, ℕ, ◌/◌, ◌<◌, arith, length, Bool, true, false, IsTrue, List, [], ◌∷◌, Option, None, refl, sym, ap, ◌∙◌, subst, slice_get, slice_index_or}
 use Rattle.nm_choice.specs.declared.leg_state.LegState.{LegState}
 use Rattle.nm_choice.specs.declared.leg_state.LegState.TheVariants.{Out}
 use Rattle.nm_choice.specs.declared.leg_state.LegState.TheVariants as state
@@ -22,7 +22,8 @@ use Rattle.nm_stripe.proofs.StepLemmas.{step-keeps}
 use Rattle.nm_gate.specs.Durable.{Durable, is_lacking, is_marked, is_named}
 use Rattle.nm_gate.specs.Gate.{Allows, AllowsCopy, is_marked_at}
 use Rattle.nm_gate.specs.Held.{HoldsDurably, NoneOn}
-use Rattle.nm_gate.specs.Moves.{AllLeave, Clears, Does, Gated, GatedRuns, IsEqualAt, Move, MoveOf, NoneStop, Saves, Unmarks}
+use Rattle.nm_gate.specs.Looking.{LooksAt}
+use Rattle.nm_gate.specs.Moves.{AllLeave, Clears, Does, Gated, GatedRuns, IsEqualAt, Looks, Move, MoveOf, NoneStop, Saves, Unmarks}
 use Rattle.nm_gate.specs.Saves.{IsCovered, Resaves}
 use Rattle.nm_gate.specs.Survive.{CooledMayClear, EqualOutside, Stands, UnmarkedStayEqual}
 use Rattle.nm_gate.proofs.Acknowledged.{move-stands, stop-later}
@@ -30,6 +31,7 @@ use Rattle.nm_gate.proofs.Added.{step-still}
 use Rattle.nm_gate.proofs.Guarded.{array-stays, joins-not, promoted-guards, promoted-in_sync}
 use Rattle.nm_gate.proofs.LegParts.{in_sync-joining}
 use Rattle.nm_gate.proofs.LegsLeft.{LegsLeft, Spared, any, but}
+use Rattle.nm_gate.proofs.Looked.{looked-inside, looked-keeps, looked-left, looked-none, looked-place}
 use Rattle.nm_gate.proofs.Runs.{runs-behind, runs-make}
 use Rattle.nm_gate.proofs.Spans.{both-ways, copy-outside, leaves-of}
 use Rattle.nm_gate.proofs.StepsLeft.{free_of, other_of, step-left}
@@ -151,6 +153,17 @@ module _ {L : Type 0} (type : LegType L) (is_honest : IsTrue type.honest) (old n
               (step-left type old new b is_honest (none-busy b old.records equal.none) s.keeps step answer goes is);
         }
 
+    looked-outside : (leg block : ℕ) (found : Option (List ℕ)) → LooksAt type leg block found old new → EqualOutside type new d
+    looked-outside leg block found is b within unmarked =
+        let inside = looked-inside type leg block found old new is b within in
+        let was : is_marked_at b old d ≡ false = subst (λ (place : At). is_marked (b / place.region) d ≡ false) (looked-place type leg block found old new is) unmarked in
+        let equal = outside b inside was in
+        let none = looked-none type leg block found old new is b equal.none in
+        record {
+          none = none;
+          holds = λ j covered. equal-other (looked-keeps type leg block found old new is s.keeps) b inside within was equal none any any (looked-left type leg block found old new is is_honest b) j tt (inr tt) covered;
+        }
+
     saved-outside : (saved : Durable) → Resaves old d saved → EqualOutside type old saved
     saved-outside saved is b inside unmarked =
         let was : is_marked_at b old d ≡ false = unmarked-before (is_marked_at b old d) refl in
@@ -185,6 +198,8 @@ module _ {L : Type 0} (type : LegType L) (is_honest : IsTrue type.honest) where
       → EqualOutside type new.stripe new.durable
   move-outside (Does step answer) moves old new s outside is goes =
       subst (λ (n : Durable). EqualOutside type new.stripe n) (sym is.durable) (step-outside type is_honest old.stripe new.stripe old.durable s outside step answer goes.0 is.allowed is.asked is.does)
+  move-outside (Looks leg block found) moves old new s outside is goes =
+      subst (λ (n : Durable). EqualOutside type new.stripe n) (sym is.1) (looked-outside type is_honest old.stripe new.stripe old.durable s outside leg block found is.0)
   move-outside (Saves saved) moves old new s outside is goes =
       subst (λ (n : Durable). EqualOutside type new.stripe n) (sym is.2) (subst (λ (x : StripeState L). EqualOutside type x saved) (sym is.1) (saved-outside type is_honest old.stripe old.stripe old.durable s outside saved is.0))
   move-outside (Clears cleared) moves old new s outside is goes =
@@ -201,6 +216,8 @@ module _ {L : Type 0} (type : LegType L) (is_honest : IsTrue type.honest) where
   runs-still [] old new b none runs leaves = subst (λ (n : Gated L). NoneOn b n.stripe.records) (sym runs) none
   runs-still (Does step answer ∷ moves) old new b none runs leaves =
       runs-still moves runs.0 new b (step-still type old.stripe runs.0.stripe b none step answer leaves.0.0 leaves.0.1 runs.1.does) runs.2 leaves.1
+  runs-still (Looks leg block found ∷ moves) old new b none runs leaves =
+      runs-still moves runs.0 new b (looked-none type leg block found old.stripe runs.0.stripe runs.1.0 b none) runs.2 leaves.1
   runs-still (Saves saved ∷ moves) old new b none runs leaves =
       runs-still moves runs.0 new b (subst (λ (x : StripeState L). NoneOn b x.records) (sym runs.1.1) none) runs.2 leaves.1
   runs-still (Clears cleared ∷ moves) old new b none runs leaves =

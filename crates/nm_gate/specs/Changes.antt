@@ -8,6 +8,7 @@ use Rattle.nm_gate.specs.Claims.{HasMarks, has, is_current_leg, is_listed_by, le
 use Rattle.nm_gate.specs.Claims.{superblock_of}
 use Rattle.nm_gate.specs.Durable.{Durable, is_lacking, is_listed, is_named}
 use Rattle.nm_gate.specs.Moves.{AllLeave, Gated, GatedRuns, Move}
+use Rattle.nm_gate.specs.Saves.{Resaves}
 
 -- the bounds once a save with these claims has begun: what the old superblock or the new one may
 -- say, and what both surely say; the marks stay
@@ -50,6 +51,12 @@ failed d = record d { broken = true }
 -- the bounds once nothing is marked
 abbrev pub cleared : Durable → Durable
 cleared d = record d { marked = replicate (length d.marked) false }
+
+-- with a superblock, what it may say changes as a save may change it; with none there is none still
+abbrev pub Resaved : {L : Type 0} → StripeState L → (old new : Option Durable) → Type 0
+Resaved stripe None None = Unit {0}
+Resaved stripe (Some d) (Some e) = Resaves stripe d e
+Resaved stripe old new = ⊥
 
 -- moves lead from one to the other, of which none begins a write or stops the stripe
 abbrev pub AreMoves : {L : Type 0} → LegType L → (old new : Gated L) → Type 0

@@ -5,6 +5,7 @@ pub mod Claims
 pub mod Durable
 pub mod Gate
 pub mod Held
+pub mod Looking
 pub mod MarkedStart
 pub mod Moves
 pub mod Restart

@@ -1,5 +1,6 @@
--- Moves of a stripe behind the gate: steps that may be done, saves, and spans that are unmarked.
-use Rattle.std.specs.Prelude.{◌≡◌, ◌⊎◌, ℕ, ◌<◌, true, false, List, [], ◌∷◌}
+-- Moves of a stripe behind the gate: steps that may be done, looks, saves, and spans that are
+-- unmarked.
+use Rattle.std.specs.Prelude.{◌≡◌, ◌⊎◌, ℕ, ◌<◌, true, false, List, [], ◌∷◌, Option}
 use Rattle.nm_leg.specs.Leg.{Leg, LegType}
 use Rattle.nm_rules.specs.State.{StripeState}
 use Rattle.nm_rules.specs.declared.refusal.Refusal.TheVariants.{AlreadyOut}
@@ -12,6 +13,7 @@ use Rattle.nm_stripe.specs.Run.{MayBeAsked, NoneHalted, StepOf}
 use Rattle.nm_gate.specs.Durable.{Durable}
 use Rattle.nm_gate.specs.Gate.{Allows, is_marked_at}
 use Rattle.nm_gate.specs.Held.{HoldsDurably, NoneOn}
+use Rattle.nm_gate.specs.Looking.{LooksAt}
 use Rattle.nm_gate.specs.Saves.{IsCovered, Resaves}
 
 -- a stripe, and what the durable superblock may say of it
@@ -19,9 +21,11 @@ pub record Gated (L : Type 0) : Type 0 where
   pub stripe : StripeState L
   pub durable : Durable
 
--- a step with its answer, a save that leaves these bounds, or a change of them that unmarks spans
+-- a step with its answer, a look at a leg and what it found, a save that leaves these bounds, or a
+-- change of them that unmarks spans
 pub data Move (L : Type 0) : Type 0 where
   Does : Step L → Answer L → Move L
+  Looks : (leg block : ℕ) → Option (List ℕ) → Move L
   Saves : Durable → Move L
   Clears : Durable → Move L
 
@@ -50,6 +54,8 @@ pub record DoesStep {L : Type 0} (type : LegType L) (step : Step L) (answer : An
 -- a move leads from one to the other
 abbrev pub MoveOf : {L : Type 0} → LegType L → Move L → (old new : Gated L) → Type 0
 MoveOf type (Does step answer) old new = DoesStep type step answer old new
+MoveOf type (Looks leg block found) old new =
+    LooksAt type leg block found old.stripe new.stripe × (new.durable ≡ old.durable)
 MoveOf type (Saves saved) old new =
     Resaves old.stripe old.durable saved × (new.stripe ≡ old.stripe) × (new.durable ≡ saved)
 MoveOf type (Clears cleared) old new =
@@ -65,6 +71,7 @@ GatedRuns {L} type (move ∷ moves) old new =
 -- the move begins no write of this block, and does not stop the stripe
 abbrev pub Leaves : {L : Type 0} → ℕ → Move L → Type 0
 Leaves block (Does step answer) = LeavesBlock block step answer × NoneHalted (answer ∷ [])
+Leaves block (Looks leg at found) = Unit {0}
 Leaves block (Saves saved) = Unit {0}
 Leaves block (Clears cleared) = Unit {0}
 
@@ -95,5 +102,6 @@ IsGatedFlush legs moves = (leg : ℕ) → leg < legs → SomeSyncs leg moves
 abbrev pub NoneStop : {L : Type 0} → List (Move L) → Type 0
 NoneStop [] = Unit {0}
 NoneStop (Does step answer ∷ moves) = NoneHalted (answer ∷ []) × NoneStop moves
+NoneStop (Looks leg block found ∷ moves) = NoneStop moves
 NoneStop (Saves saved ∷ moves) = NoneStop moves
 NoneStop (Clears cleared ∷ moves) = NoneStop moves

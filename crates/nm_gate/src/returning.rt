@@ -29,6 +29,7 @@ impl<L: LegPart> GatedStripe<L> {
         ensures cause { IfErr result (λ refusal. attach_cause self.old.stripe leg ≡ Some refusal) }
         ensures stays { OnErr result (self.new.stripe ≡ self.old.stripe) }
         ensures durable { self.new.durable ≡ self.old.durable }
+        ensures span { 0 < (suspects leg self.old.durable).span }
     {
         match &self.durable {
             Some(durable) if durable.is_lacking(leg) => {

@@ -4,7 +4,8 @@ ghost use Rattle.std.specs.Prelude.{None, Some, slice_index_or};
 ghost use Rattle.nm_leg.specs.Leg.{leg_type};
 ghost use Rattle.nm_rules.specs.Invariant.{HasLegs};
 ghost use Rattle.nm_gate.specs.Bounds.{IsTaken, IsWidened};
-ghost use Rattle.nm_gate.specs.Changes.{Ends, Leads, MayEnd, failed, may_say, widened};
+ghost use Rattle.nm_gate.specs.Changes.{Ends, Leads, MayEnd, Resaved, failed};
+ghost use Rattle.nm_gate.specs.Changes.{may_say, widened};
 ghost use Rattle.nm_gate.specs.Claims.{HasMarks, Says, claims_of, no_claims, superblock_of};
 
 use crate::durable_state::{DurableState, bit};
@@ -47,6 +48,8 @@ impl<L: LegPart> GatedStripe<L> {
             × IsWidened d (superblock_of result marked.now d) (widened result d)) }
         ensures moves { HasLegs L.model self.old.stripe → Leads (leg_type L.model L.honest)
             self.old.stripe self.old.durable self.new.stripe self.new.durable }
+        ensures saves { HasLegs L.model self.old.stripe
+            → Resaved self.old.stripe self.old.durable self.new.durable }
     {
         let Some(durable) = &mut self.durable else {
             return LegClaims::none();
@@ -72,6 +75,8 @@ impl<L: LegPart> GatedStripe<L> {
             → self.new.durable ≡ Some (failed d)) }
         ensures moves { HasLegs L.model self.old.stripe → Leads (leg_type L.model L.honest)
             self.old.stripe self.old.durable self.new.stripe self.new.durable }
+        ensures saves { HasLegs L.model self.old.stripe
+            → Resaved self.old.stripe self.old.durable self.new.durable }
     {
         claims.eight_legs();
         if let Some(durable) = &mut self.durable {
@@ -90,6 +95,7 @@ impl<L: LegPart> GatedStripe<L> {
         ensures fails { IfSome self.old.durable (λ d. self.new.durable ≡ Some (failed d)) }
         ensures moves { Leads (leg_type L.model L.honest)
             self.old.stripe self.old.durable self.new.stripe self.new.durable }
+        ensures saves { Resaved self.old.stripe self.old.durable self.new.durable }
     {
         if let Some(durable) = &mut self.durable {
             durable.fail();

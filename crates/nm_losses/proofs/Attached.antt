@@ -30,13 +30,13 @@ older = block_of (0 ∷ [])
 abbrev sure : Leg
 sure = record { contents = newer ∷ []; durable = newer ∷ []; unsynced = false ∷ []; faults = 0 }
 
-abbrev unsure : Leg
+abbrev pub unsure : Leg
 unsure = record { contents = newer ∷ []; durable = older ∷ []; unsynced = true ∷ []; faults = 0 }
 
-abbrev rest : Leg
+abbrev pub rest : Leg
 rest = record { contents = older ∷ []; durable = older ∷ []; unsynced = true ∷ []; faults = 0 }
 
-abbrev legs : List Leg
+abbrev pub legs : List Leg
 legs = sure ∷ unsure ∷ []
 
 abbrev states : List LegState
@@ -51,16 +51,16 @@ gone = record { out = true; behind = false ∷ [] }
 abbrev flags : List LegRegions
 flags = joined ∷ gone ∷ []
 
-abbrev place : At
+abbrev pub place : At
 place = record { stripe = 0; blocks = 1; region = 1; chunk = 1; history = 0 }
 
-abbrev two : Reopening Leg
+abbrev pub two : Reopening Leg
 two = record { legs = legs; states = states; flags = flags; master = 0; first = 0; policy = RoundRobin }
 
-abbrev held : LegType Leg
+abbrev pub held : LegType Leg
 held = leg_type (λ (leg : Leg). leg) true
 
-abbrev stripe : StripeState Leg
+abbrev pub stripe : StripeState Leg
 stripe = reopened place two
 
 one-long : (j : ℕ) (leg : Leg) → slice_get legs j ≡ Some leg → length leg.contents ≡ 1
@@ -101,7 +101,7 @@ may = record {
   in_sync = λ j in_sync. nowhere j;
 }
 
-stands : Stands held stripe
+pub stands : Stands held stripe
 stands = record { keeps = reopened-keeps held place two may (λ is_honest leg block there inside clear. agree leg block there); runs = refl }
 
 still : (block : ℕ) → has_unsynced held.model legs 1 block ≡ false → HoldsStill held.model legs 1 rest block

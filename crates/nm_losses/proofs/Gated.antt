@@ -20,7 +20,7 @@ use Rattle.nm_stripe.specs.Run.{NoneHalted}
 use Rattle.nm_gate.specs.Durable.{Durable, is_lacking, is_named}
 use Rattle.nm_gate.specs.Gate.{is_marked_at}
 use Rattle.nm_gate.specs.Held.{HoldsDurably}
-use Rattle.nm_gate.specs.Moves.{Clears, Does as GateDoes, Gated, IsEqualAt, Saves}
+use Rattle.nm_gate.specs.Moves.{Clears, Does as GateDoes, Gated, IsEqualAt, Looks as GateLooks, Saves}
 use Rattle.nm_gate.specs.Returning.{everywhere}
 use Rattle.nm_gate.specs.Saves.{IsCovered}
 use Rattle.nm_gate.specs.Survive.{EqualOutside, Stands}
@@ -229,6 +229,11 @@ module _ {L : Type 0} (type : LegType L) (each : (leg : L) → length (type.mode
         let mid = runs.0 in
         let rest = runs-covered moves mid new (move-stands type is_honest (GateDoes step answer) [] old mid s is (first.0, tt)) (unmarked-equal type is_honest (GateDoes step answer ∷ []) old mid s outside (mid, is, refl) (first.0, tt)) runs.2 first.1 in
         record { runs = (mid.stripe, record { no_attach = runs.1.1; asked = is.asked; does = is.does }, rest.runs); stands = rest.stands; equal = rest.equal }
+    runs-covered (Goes (GateLooks leg block found) ∷ moves) old new s outside runs goes =
+        let is = runs.1.0 in
+        let mid = runs.0 in
+        let rest = runs-covered moves mid new (move-stands type is_honest (GateLooks leg block found) [] old mid s is tt) (unmarked-equal type is_honest (GateLooks leg block found ∷ []) old mid s outside (mid, is, refl) tt) runs.2 goes in
+        record { runs = (mid.stripe, is.0, rest.runs); stands = rest.stands; equal = rest.equal }
     runs-covered (Goes (Saves saved) ∷ moves) old new s outside runs goes =
         let is = runs.1.0 in
         let mid = runs.0 in

@@ -8,7 +8,7 @@ use Rattle.nm_rules.specs.Array.{stripe_array}
 use Rattle.nm_rules.specs.Flushed.{DurableAt, KeepsDurable}
 use Rattle.nm_rules.specs.Invariant.{Keeps}
 use Rattle.nm_rules.specs.Reopening.{Marks}
-use Rattle.nm_rules.specs.State.{StripeState}
+use Rattle.nm_rules.specs.State.{StripeState, leg_state}
 use Rattle.nm_rules.proofs.ActsLemmas.{acts-append}
 use Rattle.nm_rules.proofs.RecordLemmas.{busy_found}
 use Rattle.nm_rules.proofs.SoundLemmas.{keeps-sound}
@@ -23,11 +23,13 @@ use Rattle.nm_stripe.proofs.FlushLemmas.{step-durable, step-makes}
 use Rattle.nm_stripe.proofs.RunLemmas.{none-acts, step-shape}
 use Rattle.nm_stripe.proofs.StepLemmas.{step-keeps}
 use Rattle.nm_gate.specs.Durable.{Durable}
+use Rattle.nm_gate.specs.Looking.{LooksAt}
 use Rattle.nm_gate.proofs.Guarded.{array-stays}
+use Rattle.nm_gate.proofs.Looked.{looked-acts, looked-count, looked-durable, looked-free, looked-keeps, looked-within}
 use Rattle.nm_gate.proofs.StepsLeft.{free_of, other_of, step-left}
 use Rattle.nm_losses.specs.Laws.{FlushedOutlivesLosses, KeepsTheArray, LossesKeepTheArray, Stands}
 use Rattle.nm_rules.specs.Losing.{ReturnsLost}
-use Rattle.nm_losses.specs.Moves.{ComesBack, Does, DoesStep, LossyRuns, Move, answers_of, steps_of}
+use Rattle.nm_losses.specs.Moves.{ComesBack, Does, DoesStep, Looks, LossyRuns, Move, answers_of, steps_of}
 use Rattle.nm_losses.proofs.Explained.{step-explained}
 use Rattle.nm_rules.proofs.LossLemmas.{lost-acts, lost-array, lost-durable, lost-keeps, lost-runs, lost-shape}
 
@@ -64,7 +66,7 @@ past-free type s k = by_busy (busy_on s.place.blocks s.records) refl
         absurd (omega (arith, k.records.inside q.ticket q found.0, found.1))
 
 -- one step more in front
-act-front : {L : Type 0} (model : L → Leg) (old mid new : StripeState L) (step : Step L) (answer : Answer L) (steps : List (Step L)) (answers : List (Answer L))
+pub act-front : {L : Type 0} (model : L → Leg) (old mid new : StripeState L) (step : Step L) (answer : Answer L) (steps : List (Step L)) (answers : List (Answer L))
     → IsExplainedStep model (marks step answer) old mid → ActOnOneArray model steps answers mid new → ActOnOneArray model (step ∷ steps) (answer ∷ answers) old new
 act-front model old mid new step answer steps answers one all = record {
   events_of_each = one.events ∷ all.events_of_each;
@@ -72,8 +74,8 @@ act-front model old mid new step answer steps answers one all = record {
   acts = acts-append model old mid new one.events _ one.acts all.acts;
 }
 
--- a return that no caller sees in front
-unseen-front : {L : Type 0} (model : L → Leg) (old mid new : StripeState L) (steps : List (Step L)) (answers : List (Answer L)) → Acts model old mid [] → ActOnOneArray model steps answers mid new → ActOnOneArray model steps answers old new
+-- a return or a look that no caller sees in front
+pub unseen-front : {L : Type 0} (model : L → Leg) (old mid new : StripeState L) (steps : List (Step L)) (answers : List (Answer L)) → Acts model old mid [] → ActOnOneArray model steps answers mid new → ActOnOneArray model steps answers old new
 unseen-front model old mid new steps answers none all = record {
   events_of_each = all.events_of_each;
   interleaving = all.interleaving;
@@ -87,6 +89,9 @@ module _ {L : Type 0} (type : LegType L) (is_honest : IsTrue type.honest) where
     keeps = step-keeps type step answer old new s.keeps d.asked d.does;
     runs = (step-left type old new old.place.blocks is_honest (past-free type old s.keeps) s.keeps step answer goes d.does).stopped ∙ s.runs;
   }
+
+  look-stands : (old new : StripeState L) → Stands type old → (leg block : ℕ) (found : Option (List ℕ)) → LooksAt type leg block found old new → Stands type new
+  look-stands old new s leg block found is = record { keeps = looked-keeps type leg block found old new is s.keeps; runs = ap (λ (x : StripeState L). x.stopped) is.after ∙ s.runs }
 
   lost-stands : (old new : StripeState L) → Stands type old → (leg : ℕ) (part : L) (spans : Marks) → ReturnsLost type.model old new leg part spans → Stands type new
   lost-stands old new s leg part spans r = record {
@@ -106,6 +111,13 @@ module _ {L : Type 0} (type : LegType L) (is_honest : IsTrue type.honest) where
       record {
         stands = rest.stands;
         acts = act-front type.model old runs.0 new step answer (steps_of moves) (answers_of moves) (step-explained type old runs.0 s.keeps is_honest step answer d.asked first.0 d.does) rest.acts;
+        in_sync = rest.in_sync;
+      }
+  runs-keep (Looks leg block found ∷ moves) old new s runs goes =
+      let rest = runs-keep moves runs.0 new (look-stands old runs.0 s leg block found runs.1) runs.2 goes in
+      record {
+        stands = rest.stands;
+        acts = unseen-front type.model old runs.0 new (steps_of moves) (answers_of moves) (looked-acts type leg block found old runs.0 runs.1 is_honest s.keeps) rest.acts;
         in_sync = rest.in_sync;
       }
   runs-keep (ComesBack leg part spans ∷ moves) old new s runs goes =
@@ -142,6 +154,23 @@ module _ {L : Type 0} (type : LegType L) (is_honest : IsTrue type.honest) where
           durable = durable;
         }
 
+    look-behind : (old new : StripeState L) → Stands type old → b < old.place.blocks → busy_on b old.records ≡ None → (leg block : ℕ) (found : Option (List ℕ)) → LooksAt type leg block found old new → Behind old new
+    look-behind old new s inside free leg block found is =
+        let same : stripe_array type.model new ≡ stripe_array type.model old = (looked-acts type leg block found old new is is_honest s.keeps).explained.legal in
+        record {
+          stands = look-stands old new s leg block found is;
+          inside = looked-within type leg block found old new is b inside;
+          count = looked-count type leg block found old new is;
+          array = ap (λ xs. slice_get xs b) same;
+          durable = record {
+            free = looked-free type leg block found old new is b free;
+            durable = λ j held in_sync.
+                looked-durable type leg block found old new is is_honest b j
+                ∙ held (sym (ap (λ (x : StripeState L). leg_state j x) is.after) ∙ in_sync)
+                ∙ sym (ap (λ xs. slice_get xs b) same);
+          };
+        }
+
     lost-behind : (old new : StripeState L) → Stands type old → b < old.place.blocks → busy_on b old.records ≡ None → (leg : ℕ) (part : L) (spans : Marks) → ReturnsLost type.model old new leg part spans → Behind old new
     lost-behind old new s inside free leg part spans r =
         let shape = lost-shape type old new leg part spans s.keeps r in
@@ -171,6 +200,9 @@ module _ {L : Type 0} (type : LegType L) (is_honest : IsTrue type.honest) where
         let first = none-first answer (answers_of moves) goes in
         let one = step-behind step answer old runs.0 s inside free runs.1 first.0 (leaves.0, tt) in
         in-turn old runs.0 new one (runs-behind moves runs.0 new one.stands one.inside one.durable.free runs.2 first.1 leaves.1)
+    runs-behind (Looks leg block found ∷ moves) old new s inside free runs goes leaves =
+        let one = look-behind old runs.0 s inside free leg block found runs.1 in
+        in-turn old runs.0 new one (runs-behind moves runs.0 new one.stands one.inside one.durable.free runs.2 goes leaves)
     runs-behind (ComesBack leg part spans ∷ moves) old new s inside free runs goes leaves =
         let one = lost-behind old runs.0 s inside free leg part spans runs.1 in
         in-turn old runs.0 new one (runs-behind moves runs.0 new one.stands one.inside one.durable.free runs.2 goes leaves)
@@ -188,6 +220,9 @@ module _ {L : Type 0} (type : LegType L) (is_honest : IsTrue type.honest) where
         (step-makes type old runs.0 b free s.keeps one.stands.keeps is_honest inside step answer j now d.does))
         (λ later. runs-make j moves runs.0 new one.stands one.inside one.durable.free runs.2 first.1 leaves.1 later)
         synced
+    runs-make j (Looks leg block found ∷ moves) old new s inside free runs goes leaves synced =
+        let one = look-behind old runs.0 s inside free leg block found runs.1 in
+        runs-make j moves runs.0 new one.stands one.inside one.durable.free runs.2 goes leaves synced
     runs-make j (ComesBack leg part spans ∷ moves) old new s inside free runs goes leaves synced =
         let one = lost-behind old runs.0 s inside free leg part spans runs.1 in
         runs-make j moves runs.0 new one.stands one.inside one.durable.free runs.2 goes leaves synced

@@ -5,7 +5,7 @@ use Rattle.nm_fanout.specs.Records.{busy_on}
 use Rattle.nm_leg.specs.Leg.{IsDurableElsewhere, LegType}
 use Rattle.nm_rules.specs.Array.{contents_of, stripe_array}
 use Rattle.nm_gate.specs.Moves as gate
-use Rattle.nm_gate.specs.Moves.{AllLeave, Clears, Does as GateDoes, Gated, Leaves, NoneStop, Saves, SomeSyncs}
+use Rattle.nm_gate.specs.Moves.{AllLeave, Clears, Does as GateDoes, Gated, Leaves, Looks as GateLooks, NoneStop, Saves, SomeSyncs}
 use Rattle.nm_gate.specs.Survive.{EqualOutside, Stands}
 use Rattle.nm_gate.proofs.Guarded.{Guards}
 use Rattle.nm_gate.proofs.Runs.{Behind, runs-behind, runs-make}
@@ -17,6 +17,7 @@ use Rattle.nm_losses.proofs.Gated.{recovered-behind, recovered-equal}
 -- a move that leaves the block stops nothing
 stops-none : {L : Type 0} (b : ℕ) (move : gate.Move L) → Leaves b move → NoneStop (move ∷ [])
 stops-none b (GateDoes step answer) leaves = (leaves.1, tt)
+stops-none b (GateLooks leg block found) leaves = tt
 stops-none b (Saves saved) leaves = tt
 stops-none b (Clears cleared) leaves = tt
 

@@ -10,12 +10,13 @@ use Rattle.nm_stripe.specs.declared.step.Step.TheVariants.{Return}
 use Rattle.nm_stripe.specs.Run.{NoneHalted}
 use Rattle.nm_gate.specs.Gate.{Allows}
 use Rattle.nm_gate.specs.Moves as gate
-use Rattle.nm_gate.specs.Moves.{Clears, Does as GateDoes, Gated, Saves}
+use Rattle.nm_gate.specs.Moves.{Clears, Does as GateDoes, Gated, Looks as GateLooks, Saves}
 use Rattle.nm_gate.specs.Returning.{suspects}
 use Rattle.nm_gate.specs.Survive.{EqualOutside, Stands}
 use Rattle.nm_losses.specs.Crashing.{CrashesTo}
 use Rattle.nm_rules.specs.Losing.{CoversLoss, with_part}
-use Rattle.nm_losses.specs.Moves.{ComesBack, Does, IsNoAttach, LossyRuns, Move, answers_of}
+use Rattle.nm_losses.specs.Moves.{ComesBack, Does, IsNoAttach, Looks, LossyRuns, Move}
+use Rattle.nm_losses.specs.Moves.{answers_of}
 
 -- a move behind the gate, or a leg that was the first of these, and comes back as the second
 pub data GatedMove (L : Type 0) : Type 0 where
@@ -25,6 +26,7 @@ pub data GatedMove (L : Type 0) : Type 0 where
 -- the move attaches no leg
 abbrev pub AttachesNone : {L : Type 0} → gate.Move L → Type 0
 AttachesNone (GateDoes step answer) = IsNoAttach step
+AttachesNone (GateLooks leg block found) = Unit {0}
 AttachesNone (Saves saved) = Unit {0}
 AttachesNone (Clears cleared) = Unit {0}
 
@@ -57,6 +59,7 @@ LossyGatedRuns {L} type (move ∷ moves) old new =
 abbrev pub moves_of : {L : Type 0} → List (GatedMove L) → List (Move L)
 moves_of [] = []
 moves_of (Goes (GateDoes step answer) ∷ moves) = Does step answer ∷ moves_of moves
+moves_of (Goes (GateLooks leg block found) ∷ moves) = Looks leg block found ∷ moves_of moves
 moves_of (Goes (Saves saved) ∷ moves) = moves_of moves
 moves_of (Goes (Clears cleared) ∷ moves) = moves_of moves
 moves_of (Recovers leg held part marks ∷ moves) = ComesBack leg part marks ∷ moves_of moves
