@@ -14,6 +14,7 @@ use nm_connections::{Quit, SessionPlaces};
 use nm_lanes::Gate;
 use nm_leg::LegPart;
 use nm_leg_files::MakesLegs;
+use nm_mirror::Naming;
 use nm_reports::{Known, put_metrics};
 use std::alloc::{AllocError, Global};
 use std::io;
@@ -33,10 +34,10 @@ enum After {
 }
 
 // The answer to `reopen`: of this stripe, or of all.
-fn put_reopen<R: Wait, L: LegPart, G: Gate + Drop, N: RenewsLegs<L>, M: MakesLegs<L>>(
+fn put_reopen<R: Wait, L: LegPart, G: Gate + Drop, J: Naming, N: RenewsLegs<L>, M: MakesLegs<L>>(
     rt: &R,
     alloc: Global,
-    server: &Controlled<'_, L, G, N, M>,
+    server: &Controlled<'_, L, G, J, N, M>,
     stripe: Option<u32>,
     text: &mut String,
 ) -> Result<(), AllocError> {
@@ -95,10 +96,17 @@ fn set_copy_rate(
 }
 
 // The answer to `info`.
-fn put_info<R: Wait + Clock, L: LegPart, G: Gate + Drop, N: RenewsLegs<L>, M: MakesLegs<L>>(
+fn put_info<
+    R: Wait + Clock,
+    L: LegPart,
+    G: Gate + Drop,
+    J: Naming,
+    N: RenewsLegs<L>,
+    M: MakesLegs<L>,
+>(
     rt: &R,
     alloc: Global,
-    server: &Controlled<'_, L, G, N, M>,
+    server: &Controlled<'_, L, G, J, N, M>,
     text: &mut String,
 ) -> Result<(), AllocError> {
     server.info.put(rt, text)?;
@@ -112,10 +120,17 @@ fn put_info<R: Wait + Clock, L: LegPart, G: Gate + Drop, N: RenewsLegs<L>, M: Ma
 }
 
 // The answer to `metrics`.
-fn put_numbers<R: Wait + Clock, L: LegPart, G: Gate + Drop, N: RenewsLegs<L>, M: MakesLegs<L>>(
+fn put_numbers<
+    R: Wait + Clock,
+    L: LegPart,
+    G: Gate + Drop,
+    J: Naming,
+    N: RenewsLegs<L>,
+    M: MakesLegs<L>,
+>(
     rt: &R,
     alloc: Global,
-    server: &Controlled<'_, L, G, N, M>,
+    server: &Controlled<'_, L, G, J, N, M>,
     text: &mut String,
 ) -> Result<(), AllocError> {
     let known = Known {
@@ -143,11 +158,18 @@ fn rate_of(mib: u64) -> u16 {
 }
 
 // The answer to a command that tells of something, or to another.
-fn put_told<R: Wait + Clock, L: LegPart, G: Gate + Drop, N: RenewsLegs<L>, M: MakesLegs<L>>(
+fn put_told<
+    R: Wait + Clock,
+    L: LegPart,
+    G: Gate + Drop,
+    J: Naming,
+    N: RenewsLegs<L>,
+    M: MakesLegs<L>,
+>(
     rt: &R,
     alloc: Global,
     command: ControlCommand,
-    server: &Controlled<'_, L, G, N, M>,
+    server: &Controlled<'_, L, G, J, N, M>,
     text: &mut String,
 ) -> Result<(), AllocError> {
     match command {
@@ -163,11 +185,18 @@ fn put_told<R: Wait + Clock, L: LegPart, G: Gate + Drop, N: RenewsLegs<L>, M: Ma
 }
 
 // The answer to a command that orders something, or names a leg, and to what is no command.
-fn put_ordered<R: Wait + Clock, L: LegPart, G: Gate + Drop, N: RenewsLegs<L>, M: MakesLegs<L>>(
+fn put_ordered<
+    R: Wait + Clock,
+    L: LegPart,
+    G: Gate + Drop,
+    J: Naming,
+    N: RenewsLegs<L>,
+    M: MakesLegs<L>,
+>(
     rt: &R,
     alloc: Global,
     command: ControlCommand,
-    server: &Controlled<'_, L, G, N, M>,
+    server: &Controlled<'_, L, G, J, N, M>,
     text: &mut String,
 ) -> Result<(), AllocError> {
     match command {
@@ -183,11 +212,18 @@ fn put_ordered<R: Wait + Clock, L: LegPart, G: Gate + Drop, N: RenewsLegs<L>, M:
 }
 
 // Does what a line asks for, and puts the answer.
-fn do_line<R: Wait + Clock, L: LegPart, G: Gate + Drop, N: RenewsLegs<L>, M: MakesLegs<L>>(
+fn do_line<
+    R: Wait + Clock,
+    L: LegPart,
+    G: Gate + Drop,
+    J: Naming,
+    N: RenewsLegs<L>,
+    M: MakesLegs<L>,
+>(
     rt: &R,
     alloc: Global,
     line: &[u8],
-    server: &Controlled<'_, L, G, N, M>,
+    server: &Controlled<'_, L, G, J, N, M>,
     text: &mut String,
 ) -> After {
     let put = match control_line(line) {
@@ -213,6 +249,7 @@ fn take_byte<
     O: Write,
     L: LegPart,
     G: Gate + Drop,
+    J: Naming,
     N: RenewsLegs<L>,
     M: MakesLegs<L>,
 >(
@@ -221,7 +258,7 @@ fn take_byte<
     room: &mut LineRoom,
     byte: u8,
     writer: &mut O,
-    server: &Controlled<'_, L, G, N, M>,
+    server: &Controlled<'_, L, G, J, N, M>,
 ) -> After {
     match room.feed(byte) {
         Fed::More => return After::GoOn,
@@ -253,6 +290,7 @@ pub fn control<
     O: Write,
     L: LegPart,
     G: Gate + Drop,
+    J: Naming,
     N: RenewsLegs<L>,
     M: MakesLegs<L>,
 >(
@@ -260,7 +298,7 @@ pub fn control<
     alloc: Global,
     reader: &mut I,
     writer: &mut O,
-    server: &Controlled<'_, L, G, N, M>,
+    server: &Controlled<'_, L, G, J, N, M>,
 ) -> Option<Quit> {
     let mut room = LineRoom::new();
     let mut piece = [0u8; ROOM];
@@ -294,8 +332,8 @@ pub trait AnswersControl {
     ) -> Option<Quit>;
 }
 
-impl<'x, L: LegPart, G: Gate + Drop, N: RenewsLegs<L>, M: MakesLegs<L>> AnswersControl
-    for Controlled<'x, L, G, N, M> {
+impl<'x, L: LegPart, G: Gate + Drop, J: Naming, N: RenewsLegs<L>, M: MakesLegs<L>> AnswersControl
+    for Controlled<'x, L, G, J, N, M> {
     fn answer<R: Wait + Clock, I: Read, O: Write>(
         &self,
         rt: &R,

@@ -11,7 +11,7 @@ use nm_geometry::{MOST_LEGS, Shape};
 use nm_lanes::Gate;
 use nm_leg::LegPart;
 use nm_leg_files::OpensLegs;
-use nm_mirror::{CopyRound, Mirror, Pass};
+use nm_mirror::{CopyRound, Mirror, Naming, Pass};
 use nm_reports::{LegLines, LegStory, LogLines};
 use std::alloc::{AllocError, Global};
 use std::sync::Wait;
@@ -64,10 +64,10 @@ impl Copier {
     }
 
     /// Takes a turn at copying, in a mirror of its shape. How many steps were done.
-    pub fn turn<R: Wait, L: LegPart, G: Gate + Drop>(
+    pub fn turn<R: Wait, L: LegPart, G: Gate + Drop, J: Naming>(
         &mut self,
         rt: &R,
-        mirror: &Mirror<L, G>,
+        mirror: &Mirror<L, G, J>,
         orders: &CopyOrders,
     ) -> u32 {
         let shape = mirror.shape();
@@ -79,11 +79,11 @@ impl Copier {
 
     /// Takes a turn at comparing legs, where that is asked for; what it repairs is written through
     /// the pass. How many runs were looked at.
-    pub fn verify<R: Wait + Clock, L: LegPart, G: Gate + Drop>(
+    pub fn verify<R: Wait + Clock, L: LegPart, G: Gate + Drop, J: Naming>(
         &mut self,
         rt: &R,
-        copied: &CopiedMirror<'_, L, G>,
-        pass: &mut Pass<L>,
+        copied: &CopiedMirror<'_, L, G, J>,
+        pass: &mut Pass<L, J>,
         now: u64,
     ) -> u32 {
         let (desk, lines) = (copied.orders.verify(), copied.shared.lines);
@@ -92,10 +92,10 @@ impl Copier {
     }
 
     /// Tells how each leg stands, as the server begins or ends.
-    pub fn tell_all<R: Wait + Clock, L: LegPart, G: Gate + Drop>(
+    pub fn tell_all<R: Wait + Clock, L: LegPart, G: Gate + Drop, J: Naming>(
         &mut self,
         rt: &R,
-        copied: &CopiedMirror<'_, L, G>,
+        copied: &CopiedMirror<'_, L, G, J>,
         when: &str,
     ) {
         let (mirror, lines) = (copied.mirror, copied.shared.lines);
@@ -103,10 +103,10 @@ impl Copier {
     }
 
     /// Tells what has happened by this time, in milliseconds.
-    pub fn tell<R: Wait + Clock, L: LegPart, G: Gate + Drop>(
+    pub fn tell<R: Wait + Clock, L: LegPart, G: Gate + Drop, J: Naming>(
         &mut self,
         rt: &R,
-        copied: &CopiedMirror<'_, L, G>,
+        copied: &CopiedMirror<'_, L, G, J>,
         now: u64,
     ) {
         let (mirror, shared) = (copied.mirror, copied.shared);
@@ -120,10 +120,10 @@ impl Copier {
     }
 
     // Tells which legs were paused or resumed since that was last told.
-    fn tell_paused<R: Wait, L: LegPart, G: Gate + Drop>(
+    fn tell_paused<R: Wait, L: LegPart, G: Gate + Drop, J: Naming>(
         &mut self,
         rt: &R,
-        mirror: &Mirror<L, G>,
+        mirror: &Mirror<L, G, J>,
         lines: &LogLines,
     ) {
         let alloc = self.alloc;
@@ -139,30 +139,30 @@ impl Copier {
     }
 
     /// Takes the legs out as a whole of which a call failed.
-    pub fn watch<R: Wait + Clock, L: LegPart, G: Gate + Drop>(
+    pub fn watch<R: Wait + Clock, L: LegPart, G: Gate + Drop, J: Naming>(
         &self,
         rt: &R,
-        copied: &CopiedMirror<'_, L, G>,
+        copied: &CopiedMirror<'_, L, G, J>,
     ) {
         self.watch.look(rt, self.alloc, copied);
     }
 
     /// Syncs what was written and not flushed for five seconds, at this time, in milliseconds.
-    pub fn sync_due<R: Wait, L: LegPart, G: Gate + Drop>(
+    pub fn sync_due<R: Wait, L: LegPart, G: Gate + Drop, J: Naming>(
         &mut self,
         rt: &R,
-        mirror: &Mirror<L, G>,
+        mirror: &Mirror<L, G, J>,
         now: u64,
     ) {
         self.syncs.turn(rt, mirror, &self.watch, now);
     }
 
     /// Attaches the legs that are to heal and due at this time, in milliseconds, as last told.
-    pub fn heal<R: Wait, O: OpensLegs, L: LegPart, G: Gate + Drop>(
+    pub fn heal<R: Wait, O: OpensLegs, L: LegPart, G: Gate + Drop, J: Naming>(
         &mut self,
         rt: &R,
         opener: &O,
-        copied: &CopiedMirror<'_, L, G>,
+        copied: &CopiedMirror<'_, L, G, J>,
         now: u64,
     ) {
         if let Some(healing) = &mut self.healing {

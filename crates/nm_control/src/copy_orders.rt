@@ -9,7 +9,7 @@ use crate::verify_desk::VerifyDesk;
 use nm_lanes::Gate;
 use nm_leg::LegPart;
 use nm_leg_files::CallLimit;
-use nm_mirror::{AttachCounts, FailCounts, Mirror};
+use nm_mirror::{AttachCounts, FailCounts, Mirror, Naming};
 use nm_reports::MirrorDoubts;
 use nm_service::LegOrders;
 use std::alloc::Global;
@@ -154,10 +154,10 @@ impl CopyOrders {
     }
 
     // Lets the leg join every stripe again, and counts what came of it.
-    fn attach_now<R: Wait, L: LegPart, G: Gate + Drop>(
+    fn attach_now<R: Wait, L: LegPart, G: Gate + Drop, J: Naming>(
         &self,
         rt: &R,
-        mirror: &Mirror<L, G>,
+        mirror: &Mirror<L, G, J>,
         leg: u8,
     ) -> AttachCounts
         requires { leg < mirror.now.shape.legs }
@@ -168,10 +168,10 @@ impl CopyOrders {
 
     /// Takes the leg out of every stripe by hand, and counts what came of it: none while it is
     /// being replaced.
-    pub fn fail<R: Wait, L: LegPart, G: Gate + Drop>(
+    pub fn fail<R: Wait, L: LegPart, G: Gate + Drop, J: Naming>(
         &self,
         rt: &R,
-        mirror: &Mirror<L, G>,
+        mirror: &Mirror<L, G, J>,
         leg: u8,
     ) -> Option<FailCounts>
         requires { leg < mirror.now.shape.legs }
@@ -189,10 +189,10 @@ impl CopyOrders {
     /// spoil. It is not noted as taken out by hand. Then what was seen failing is handled: whether
     /// it is the first since the leg came back. Nothing is done while a command on the leg is under
     /// way, which may have it come back.
-    pub fn take_out_failed<R: Wait, L: LegPart, G: Gate + Drop>(
+    pub fn take_out_failed<R: Wait, L: LegPart, G: Gate + Drop, J: Naming>(
         &self,
         rt: &R,
-        mirror: &Mirror<L, G>,
+        mirror: &Mirror<L, G, J>,
         leg: u8,
         is_whole: bool,
         seen: u64,
@@ -218,10 +218,10 @@ impl CopyOrders {
 
     /// Lets the leg join every stripe again by hand, and counts what came of it: none while it is
     /// being replaced, or a call of it that was left has not returned.
-    pub fn attach<R: Wait, L: LegPart, G: Gate + Drop>(
+    pub fn attach<R: Wait, L: LegPart, G: Gate + Drop, J: Naming>(
         &self,
         rt: &R,
-        mirror: &Mirror<L, G>,
+        mirror: &Mirror<L, G, J>,
         leg: u8,
     ) -> Option<AttachCounts>
         requires { leg < mirror.now.shape.legs }
@@ -255,11 +255,11 @@ impl CopyOrders {
 
     /// Puts a leg on a file that is opened anew in the place of this one in every stripe. Where
     /// that is not done once it is out, it is out by hand.
-    pub fn replace<R: Wait, L: LegPart, G: Gate + Drop, N: RenewsLegs<L>>(
+    pub fn replace<R: Wait, L: LegPart, G: Gate + Drop, J: Naming, N: RenewsLegs<L>>(
         &self,
         rt: &R,
         alloc: Global,
-        mirror: &Mirror<L, G>,
+        mirror: &Mirror<L, G, J>,
         leg: u8,
         legs: &N,
     ) -> Replaced
@@ -294,10 +294,10 @@ impl CopyOrders {
 
     /// Takes the last leg out of every stripe for good. Where that is not done once it is out, it
     /// is out by hand.
-    pub fn retire<R: Wait, L: LegPart, G: Gate + Drop, N: RenewsLegs<L>>(
+    pub fn retire<R: Wait, L: LegPart, G: Gate + Drop, J: Naming, N: RenewsLegs<L>>(
         &self,
         rt: &R,
-        mirror: &Mirror<L, G>,
+        mirror: &Mirror<L, G, J>,
         leg: u8,
         legs: &N,
     ) -> Retired
@@ -322,10 +322,10 @@ impl CopyOrders {
     }
 
     /// Takes those legs out again that are out for good, of stripes that were opened anew.
-    pub fn keep_retired_out<R: Wait, L: LegPart, G: Gate + Drop>(
+    pub fn keep_retired_out<R: Wait, L: LegPart, G: Gate + Drop, J: Naming>(
         &self,
         rt: &R,
-        mirror: &Mirror<L, G>,
+        mirror: &Mirror<L, G, J>,
     ) {
         let legs = mirror.legs();
         for leg in self.kept_of(legs)..legs {
@@ -335,10 +335,10 @@ impl CopyOrders {
 
     /// Lets the leg join by itself: none where the leg was taken out by hand, a command on it is
     /// under way, or a call of it that was left has not returned.
-    pub fn attach_by_itself<R: Wait, L: LegPart, G: Gate + Drop>(
+    pub fn attach_by_itself<R: Wait, L: LegPart, G: Gate + Drop, J: Naming>(
         &self,
         rt: &R,
-        mirror: &Mirror<L, G>,
+        mirror: &Mirror<L, G, J>,
         leg: u8,
     ) -> Option<AttachCounts> {
         if leg >= mirror.legs() {

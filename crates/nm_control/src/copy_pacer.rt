@@ -4,7 +4,7 @@ use crate::copied_mirror::CopiedMirror;
 use crate::copier::Copier;
 use nm_lanes::Gate;
 use nm_leg::LegPart;
-use nm_mirror::Pass;
+use nm_mirror::{Naming, Pass};
 use nm_service::{CopyTurn, rest_after};
 use std::sync::Wait;
 use std::thread;
@@ -44,11 +44,11 @@ impl CopyPacer {
     }
 
     /// Takes a turn at copying. Whether it did anything.
-    pub fn turn<R: Wait + Clock, L: LegPart, G: Gate + Drop>(
+    pub fn turn<R: Wait + Clock, L: LegPart, G: Gate + Drop, J: Naming>(
         &mut self,
         rt: &R,
         copier: &mut Copier,
-        copied: &CopiedMirror<'_, L, G>,
+        copied: &CopiedMirror<'_, L, G, J>,
     ) -> bool {
         let begun = Instant::now(rt).ok();
         let steps = copier.turn(rt, copied.mirror, copied.orders);
@@ -60,12 +60,12 @@ impl CopyPacer {
     }
 
     /// Takes a turn at comparing legs, as copies take theirs. Whether it did anything.
-    pub fn verify<R: Wait + Clock, L: LegPart, G: Gate + Drop>(
+    pub fn verify<R: Wait + Clock, L: LegPart, G: Gate + Drop, J: Naming>(
         &mut self,
         rt: &R,
         copier: &mut Copier,
-        copied: &CopiedMirror<'_, L, G>,
-        pass: &mut Pass<L>,
+        copied: &CopiedMirror<'_, L, G, J>,
+        pass: &mut Pass<L, J>,
         now: u64,
     ) -> bool {
         let begun = Instant::now(rt).ok();
@@ -78,12 +78,12 @@ impl CopyPacer {
     }
 
     // Rests after so many steps since this moment.
-    fn rest_after<R: Clock, L: LegPart, G: Gate + Drop>(
+    fn rest_after<R: Clock, L: LegPart, G: Gate + Drop, J: Naming>(
         &mut self,
         rt: &R,
         steps: u32,
         begun: &Option<Instant>,
-        copied: &CopiedMirror<'_, L, G>,
+        copied: &CopiedMirror<'_, L, G, J>,
     ) {
         let calls = copied.shared.state.places.calls();
         let turn = CopyTurn {

@@ -4,7 +4,7 @@ use crate::leg_watch::LegWatch;
 use nm_geometry::MOST_STRIPES;
 use nm_lanes::Gate;
 use nm_leg::LegPart;
-use nm_mirror::Mirror;
+use nm_mirror::{Mirror, Naming};
 use nm_service::Interval;
 use std::sync::Wait;
 
@@ -29,10 +29,10 @@ impl DueSyncs {
     /// Takes a turn at this time, in milliseconds. Where something is due it syncs the legs' files
     /// first, outside every lock, and then one stripe right after the other, so that what is
     /// written under a stripe's lock is what came during the sync before.
-    pub fn turn<R: Wait, L: LegPart, G: Gate + Drop>(
+    pub fn turn<R: Wait, L: LegPart, G: Gate + Drop, J: Naming>(
         &mut self,
         rt: &R,
-        mirror: &Mirror<L, G>,
+        mirror: &Mirror<L, G, J>,
         watch: &LegWatch,
         now: u64,
     ) {

@@ -5,6 +5,7 @@ use crate::copy_orders::CopyOrders;
 use nm_lanes::Gate;
 use nm_leg::LegPart;
 use nm_leg_files::{LegPlace, OpensLegs, Unfit};
+use nm_mirror::Naming;
 use nm_reports::{LegStory, LogLines};
 use nm_service::{AttachTime, AutoAttach, LegEvent, ReadReturns, event_of};
 use std::alloc::{AllocError, Global};
@@ -122,11 +123,11 @@ impl HealingLeg {
     }
 
     // Checks the leg's file, and attaches the leg.
-    fn attach<R: Wait, O: OpensLegs, L: LegPart, G: Gate + Drop>(
+    fn attach<R: Wait, O: OpensLegs, L: LegPart, G: Gate + Drop, J: Naming>(
         &self,
         rt: &R,
         opener: &O,
-        copied: &CopiedMirror<'_, L, G>,
+        copied: &CopiedMirror<'_, L, G, J>,
     ) -> Result<(), Unfit> {
         let (mirror, orders) = (copied.mirror, copied.orders);
         self.place.check(opener)?;
@@ -165,11 +166,11 @@ impl HealingLeg {
     }
 
     // Attaches the leg where that is due at this time.
-    fn try_now<R: Wait, O: OpensLegs, L: LegPart, G: Gate + Drop>(
+    fn try_now<R: Wait, O: OpensLegs, L: LegPart, G: Gate + Drop, J: Naming>(
         &mut self,
         rt: &R,
         opener: &O,
-        copied: &CopiedMirror<'_, L, G>,
+        copied: &CopiedMirror<'_, L, G, J>,
         now: u64,
     ) {
         let AttachTime::Now(number) = self.tries.take(LegEvent::Time, now) else {
@@ -229,12 +230,12 @@ impl Healing {
 
     /// Looks at how each leg stands at this time, in milliseconds, and attaches those that are due.
     /// One on which a command is under way is passed over.
-    pub fn look<R: Wait, O: OpensLegs, L: LegPart, G: Gate + Drop>(
+    pub fn look<R: Wait, O: OpensLegs, L: LegPart, G: Gate + Drop, J: Naming>(
         &mut self,
         rt: &R,
         opener: &O,
         story: &LegStory,
-        copied: &CopiedMirror<'_, L, G>,
+        copied: &CopiedMirror<'_, L, G, J>,
         now: u64,
     ) {
         let (orders, lines) = (copied.orders, copied.shared.lines);

@@ -9,7 +9,7 @@ use nm_commands::ControlCommand;
 use nm_lanes::Gate;
 use nm_leg::LegPart;
 use nm_leg_files::{AttachAnswer, MakesLegs, Unfit};
-use nm_mirror::{AttachCounts, FailCounts, Mirror};
+use nm_mirror::{AttachCounts, FailCounts, Mirror, Naming};
 use std::alloc::{AllocError, Global};
 use std::sync::Wait;
 use std::time::{Clock, Duration};
@@ -18,9 +18,9 @@ use std::time::{Clock, Duration};
 const SAVE_SECONDS: u64 = 2;
 
 // Ends an answer on what was done to a leg, once a superblock says so, or has not for so long.
-fn put_saved<R: Wait + Clock, L: LegPart, G: Gate + Drop>(
+fn put_saved<R: Wait + Clock, L: LegPart, G: Gate + Drop, J: Naming>(
     rt: &R,
-    mirror: &Mirror<L, G>,
+    mirror: &Mirror<L, G, J>,
     text: &mut String,
 ) -> Result<(), AllocError> {
     let is_saved = mirror.save_within(rt, Duration::from_secs(SAVE_SECONDS));
@@ -42,9 +42,16 @@ fn put_failed(leg: u8, counts: &FailCounts, text: &mut String) -> Result<(), All
 }
 
 // The answer to `fail`.
-fn put_fail<R: Wait + Clock, L: LegPart, G: Gate + Drop, N: RenewsLegs<L>, M: MakesLegs<L>>(
+fn put_fail<
+    R: Wait + Clock,
+    L: LegPart,
+    G: Gate + Drop,
+    J: Naming,
+    N: RenewsLegs<L>,
+    M: MakesLegs<L>,
+>(
     rt: &R,
-    server: &Controlled<'_, L, G, N, M>,
+    server: &Controlled<'_, L, G, J, N, M>,
     leg: u8,
     text: &mut String,
 ) -> Result<(), AllocError> {
@@ -60,11 +67,14 @@ fn put_fail<R: Wait + Clock, L: LegPart, G: Gate + Drop, N: RenewsLegs<L>, M: Ma
 
 // Looks for the file of a leg that is to be attached: why it cannot be. One that is being replaced
 // is not looked for.
-fn find_leg<R: Wait + Clock, L: LegPart, G: Gate + Drop, N: RenewsLegs<L>, M: MakesLegs<L>>(
-    rt: &R,
-    server: &Controlled<'_, L, G, N, M>,
-    leg: u8,
-) -> Result<(), Unfit> {
+fn find_leg<
+    R: Wait + Clock,
+    L: LegPart,
+    G: Gate + Drop,
+    J: Naming,
+    N: RenewsLegs<L>,
+    M: MakesLegs<L>,
+>(rt: &R, server: &Controlled<'_, L, G, J, N, M>, leg: u8) -> Result<(), Unfit> {
     if server.orders.is_replaced(rt, leg) {
         return Err(Unfit::Command);
     }
@@ -90,9 +100,16 @@ fn put_unfit(leg: u8, why: Unfit, text: &mut String) -> Result<(), AllocError> {
 }
 
 // The answer to `attach`.
-fn put_attach<R: Wait + Clock, L: LegPart, G: Gate + Drop, N: RenewsLegs<L>, M: MakesLegs<L>>(
+fn put_attach<
+    R: Wait + Clock,
+    L: LegPart,
+    G: Gate + Drop,
+    J: Naming,
+    N: RenewsLegs<L>,
+    M: MakesLegs<L>,
+>(
     rt: &R,
-    server: &Controlled<'_, L, G, N, M>,
+    server: &Controlled<'_, L, G, J, N, M>,
     leg: u8,
     text: &mut String,
 ) -> Result<(), AllocError> {
@@ -113,10 +130,17 @@ fn put_attach<R: Wait + Clock, L: LegPart, G: Gate + Drop, N: RenewsLegs<L>, M: 
 }
 
 // The answer to `replace`.
-fn put_replace<R: Wait + Clock, L: LegPart, G: Gate + Drop, N: RenewsLegs<L>, M: MakesLegs<L>>(
+fn put_replace<
+    R: Wait + Clock,
+    L: LegPart,
+    G: Gate + Drop,
+    J: Naming,
+    N: RenewsLegs<L>,
+    M: MakesLegs<L>,
+>(
     rt: &R,
     alloc: Global,
-    server: &Controlled<'_, L, G, N, M>,
+    server: &Controlled<'_, L, G, J, N, M>,
     leg: u8,
     text: &mut String,
 ) -> Result<(), AllocError> {
@@ -142,11 +166,18 @@ fn leg_of(number: u64) -> u8 {
 }
 
 // The answer to a command on how a leg is copied or repaired, and to what names no leg.
-fn put_of_copies<R: Wait + Clock, L: LegPart, G: Gate + Drop, N: RenewsLegs<L>, M: MakesLegs<L>>(
+fn put_of_copies<
+    R: Wait + Clock,
+    L: LegPart,
+    G: Gate + Drop,
+    J: Naming,
+    N: RenewsLegs<L>,
+    M: MakesLegs<L>,
+>(
     rt: &R,
     alloc: Global,
     command: ControlCommand,
-    server: &Controlled<'_, L, G, N, M>,
+    server: &Controlled<'_, L, G, J, N, M>,
     text: &mut String,
 ) -> Result<(), AllocError> {
     match command {
@@ -179,11 +210,18 @@ fn put_of_copies<R: Wait + Clock, L: LegPart, G: Gate + Drop, N: RenewsLegs<L>, 
 }
 
 /// The answer to a command that names a leg; to any other, that it is a bad one.
-pub fn put_of_leg<R: Wait + Clock, L: LegPart, G: Gate + Drop, N: RenewsLegs<L>, M: MakesLegs<L>>(
+pub fn put_of_leg<
+    R: Wait + Clock,
+    L: LegPart,
+    G: Gate + Drop,
+    J: Naming,
+    N: RenewsLegs<L>,
+    M: MakesLegs<L>,
+>(
     rt: &R,
     alloc: Global,
     command: ControlCommand,
-    server: &Controlled<'_, L, G, N, M>,
+    server: &Controlled<'_, L, G, J, N, M>,
     text: &mut String,
 ) -> Result<(), AllocError> {
     match command {

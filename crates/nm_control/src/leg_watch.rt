@@ -4,7 +4,7 @@ use crate::copied_mirror::CopiedMirror;
 use nm_lanes::Gate;
 use nm_leg::LegPart;
 use nm_leg_files::LegPlace;
-use nm_mirror::{Mirror, StripeStatus};
+use nm_mirror::{Mirror, Naming, StripeStatus};
 use nm_reports::{Failure, LogLines};
 use nm_stripe::LegState;
 use std::alloc::Global;
@@ -31,10 +31,10 @@ fn fails_as_a_whole(place: &LegPlace, failure: Failure) -> Option<bool> {
 
 // Whether the leg is still in sync in the stripe of this byte: then a read that failed there left
 // it where it was.
-fn is_in_sync_at<R: Wait + Clock, L: LegPart, G: Gate + Drop>(
+fn is_in_sync_at<R: Wait + Clock, L: LegPart, G: Gate + Drop, J: Naming>(
     rt: &R,
     alloc: Global,
-    mirror: &Mirror<L, G>,
+    mirror: &Mirror<L, G, J>,
     leg: usize,
     at: u64,
 ) -> bool {
@@ -66,10 +66,10 @@ fn tell_stays<R: Wait>(rt: &R, alloc: Global, lines: &LogLines, leg: usize, plac
 }
 
 // Takes the leg out where a call of it failed since the last look.
-fn look_at<R: Wait + Clock, L: LegPart, G: Gate + Drop>(
+fn look_at<R: Wait + Clock, L: LegPart, G: Gate + Drop, J: Naming>(
     rt: &R,
     alloc: Global,
-    copied: &CopiedMirror<'_, L, G>,
+    copied: &CopiedMirror<'_, L, G, J>,
     leg: usize,
     place: &LegPlace,
 ) {
@@ -111,11 +111,11 @@ impl LegWatch {
     /// Takes each leg of which a call failed out of every stripe in which it is not the last in
     /// sync, unless reads alone failed that are a matter of their place. Where nothing failed since
     /// the last look, it makes no call. A leg that a command is at is looked at again.
-    pub fn look<R: Wait + Clock, L: LegPart, G: Gate + Drop>(
+    pub fn look<R: Wait + Clock, L: LegPart, G: Gate + Drop, J: Naming>(
         &self,
         rt: &R,
         alloc: Global,
-        copied: &CopiedMirror<'_, L, G>,
+        copied: &CopiedMirror<'_, L, G, J>,
     ) {
         for (leg, place) in self.places.iter().enumerate() {
             look_at(rt, alloc, copied, leg, place);

@@ -5,7 +5,7 @@ use crate::copy_orders::CopyOrders;
 use nm_lanes::Gate;
 use nm_leg::LegPart;
 use nm_leg_files::MakesLegs;
-use nm_mirror::{Mirror, Reopened};
+use nm_mirror::{Mirror, Naming, Reopened};
 use std::alloc::Global;
 use std::sync::Wait;
 
@@ -35,10 +35,10 @@ impl ReopenCounts {
 }
 
 // Opens the stripe anew, if it has stopped.
-fn reopen_one<R: Wait, L: LegPart, G: Gate + Drop, M: MakesLegs<L>>(
+fn reopen_one<R: Wait, L: LegPart, G: Gate + Drop, J: Naming, M: MakesLegs<L>>(
     rt: &R,
     alloc: Global,
-    mirror: &Mirror<L, G>,
+    mirror: &Mirror<L, G, J>,
     maker: &M,
     stripe: u32,
 ) -> Reopened
@@ -56,10 +56,10 @@ fn reopen_one<R: Wait, L: LegPart, G: Gate + Drop, M: MakesLegs<L>>(
 /// Tries a save again that could not be done, and opens each of the stripes from the first to the
 /// one before the end anew that has stopped. Then copies begin again: what could not be saved held
 /// them up, and the legs of a stripe that was opened join with all of their blocks.
-pub fn reopen<R: Wait, L: LegPart, G: Gate + Drop, M: MakesLegs<L>>(
+pub fn reopen<R: Wait, L: LegPart, G: Gate + Drop, J: Naming, M: MakesLegs<L>>(
     rt: &R,
     alloc: Global,
-    mirror: &Mirror<L, G>,
+    mirror: &Mirror<L, G, J>,
     maker: &M,
     orders: &CopyOrders,
     first: u32,

@@ -7,7 +7,7 @@ use nm_leg::LegPart;
 use nm_leg_files::{
     BytesRead, LateSlots, Leg, LegPlace, OpensLegs, ReplaceAnswer, SuperblockWriter, Unfit,
 };
-use nm_mirror::{Mirror, ReplaceCounts, Withdrawal};
+use nm_mirror::{Mirror, Naming, ReplaceCounts, Withdrawal};
 use std::alloc::{AllocError, Global};
 use std::fmt;
 use std::sync::atomic::AtomicU64;
@@ -138,10 +138,10 @@ impl<'x, O: OpensLegs> RenewsLegs<Leg> for LegRenewer<'x, O> {
 }
 
 // Has the file of a leg that is out opened anew, and puts the leg back.
-fn put_back<R: Wait, L: LegPart, G: Gate + Drop, N: RenewsLegs<L>>(
+fn put_back<R: Wait, L: LegPart, G: Gate + Drop, J: Naming, N: RenewsLegs<L>>(
     rt: &R,
     alloc: Global,
-    mirror: &Mirror<L, G>,
+    mirror: &Mirror<L, G, J>,
     leg: u8,
     legs: &N,
 ) -> Replaced
@@ -158,10 +158,10 @@ fn put_back<R: Wait, L: LegPart, G: Gate + Drop, N: RenewsLegs<L>>(
 }
 
 /// Takes the leg out of every stripe, has its file opened anew, and puts it back.
-pub fn replace_now<R: Wait, L: LegPart, G: Gate + Drop, N: RenewsLegs<L>>(
+pub fn replace_now<R: Wait, L: LegPart, G: Gate + Drop, J: Naming, N: RenewsLegs<L>>(
     rt: &R,
     alloc: Global,
-    mirror: &Mirror<L, G>,
+    mirror: &Mirror<L, G, J>,
     leg: u8,
     legs: &N,
 ) -> Replaced

@@ -6,7 +6,7 @@ use crate::copy_pacer::CopyPacer;
 use nm_lanes::Gate;
 use nm_leg::LegPart;
 use nm_leg_files::OpensLegs;
-use nm_mirror::Pass;
+use nm_mirror::{Naming, Pass};
 use nm_reports::milliseconds_since;
 use nm_service::Interval;
 use std::sync::Wait;
@@ -28,11 +28,11 @@ const SETTLE_MILLISECONDS: u64 = 5_000;
 
 // Looks for clients that have gone or are idle, takes legs out as a whole of which a call failed,
 // tells what happens to legs, and attaches those that are to heal.
-fn look<R: Wait + Clock, O: OpensLegs, L: LegPart, G: Gate + Drop>(
+fn look<R: Wait + Clock, O: OpensLegs, L: LegPart, G: Gate + Drop, J: Naming>(
     rt: &R,
     opener: &O,
     copier: &mut Copier,
-    copied: &CopiedMirror<'_, L, G>,
+    copied: &CopiedMirror<'_, L, G, J>,
     now: u64,
 ) {
     copied.shared.state.places.look(rt);
@@ -64,12 +64,12 @@ impl Turns {
     }
 
     // Does at this time what is due: looks, begins the round again, and settles stripes.
-    fn take<R: Wait + Clock, O: OpensLegs, L: LegPart, G: Gate + Drop>(
+    fn take<R: Wait + Clock, O: OpensLegs, L: LegPart, G: Gate + Drop, J: Naming>(
         &mut self,
         rt: &R,
         opener: &O,
         copier: &mut Copier,
-        copied: &CopiedMirror<'_, L, G>,
+        copied: &CopiedMirror<'_, L, G, J>,
         now: u64,
     ) {
         if self.looks.take(now) {
@@ -87,11 +87,11 @@ impl Turns {
 
 // Takes a turn at copying, or at comparing legs through the pass; a pause where neither did
 // something.
-fn take_turn<R: Wait + Clock, L: LegPart, G: Gate + Drop>(
+fn take_turn<R: Wait + Clock, L: LegPart, G: Gate + Drop, J: Naming>(
     rt: &R,
     (copier, pacer): (&mut Copier, &mut CopyPacer),
-    copied: &CopiedMirror<'_, L, G>,
-    pass: &mut Pass<L>,
+    copied: &CopiedMirror<'_, L, G, J>,
+    pass: &mut Pass<L, J>,
     now: u64,
 ) {
     if !pacer.rest(rt)
@@ -110,12 +110,12 @@ fn take_turn<R: Wait + Clock, L: LegPart, G: Gate + Drop>(
 /// tells what happens. What was not flushed for five seconds is synced, and marks of stripes in
 /// which nothing was written for five seconds are cleared. What is repaired is written through the
 /// pass.
-pub fn resynchronise<R: Wait + Clock, O: OpensLegs, L: LegPart, G: Gate + Drop>(
+pub fn resynchronise<R: Wait + Clock, O: OpensLegs, L: LegPart, G: Gate + Drop, J: Naming>(
     rt: &R,
     opener: &O,
     copier: Copier,
-    copied: &CopiedMirror<'_, L, G>,
-    pass: &mut Pass<L>,
+    copied: &CopiedMirror<'_, L, G, J>,
+    pass: &mut Pass<L, J>,
 ) {
     let (mut copier, mut pacer, mut turns) = (copier, CopyPacer::new(), Turns::new());
     let begun = Instant::now(rt).ok();

@@ -6,7 +6,7 @@ use crate::replacing::RenewsLegs;
 use nm_lanes::Gate;
 use nm_leg::LegPart;
 use nm_leg_files::{MakesLegs, ReplaceAnswer, Unfit};
-use nm_mirror::{Mirror, Withdrawal};
+use nm_mirror::{Mirror, Naming, Withdrawal};
 use std::alloc::AllocError;
 use std::fmt;
 use std::sync::Wait;
@@ -46,9 +46,9 @@ impl fmt::Display for Retired {
 }
 
 /// Takes the leg out of every stripe, waits until a superblock says so, and leaves none of it.
-pub fn retire_now<R: Wait, L: LegPart, G: Gate + Drop, N: RenewsLegs<L>>(
+pub fn retire_now<R: Wait, L: LegPart, G: Gate + Drop, J: Naming, N: RenewsLegs<L>>(
     rt: &R,
-    mirror: &Mirror<L, G>,
+    mirror: &Mirror<L, G, J>,
     leg: u8,
     legs: &N,
 ) -> Retired
@@ -66,17 +66,24 @@ pub fn retire_now<R: Wait, L: LegPart, G: Gate + Drop, N: RenewsLegs<L>>(
 }
 
 /// Whether the leg is out for good.
-pub fn is_retired<L: LegPart, G: Gate + Drop, N: RenewsLegs<L>, M: MakesLegs<L>>(
-    server: &Controlled<'_, L, G, N, M>,
+pub fn is_retired<L: LegPart, G: Gate + Drop, J: Naming, N: RenewsLegs<L>, M: MakesLegs<L>>(
+    server: &Controlled<'_, L, G, J, N, M>,
     leg: u8,
 ) -> bool {
     leg >= server.orders.kept_of(server.mirror.legs())
 }
 
 /// The answer to `retire`.
-pub fn put_retire<R: Wait, L: LegPart, G: Gate + Drop, N: RenewsLegs<L>, M: MakesLegs<L>>(
+pub fn put_retire<
+    R: Wait,
+    L: LegPart,
+    G: Gate + Drop,
+    J: Naming,
+    N: RenewsLegs<L>,
+    M: MakesLegs<L>,
+>(
     rt: &R,
-    server: &Controlled<'_, L, G, N, M>,
+    server: &Controlled<'_, L, G, J, N, M>,
     leg: u8,
     text: &mut String,
 ) -> Result<(), AllocError> {

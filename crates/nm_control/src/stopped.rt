@@ -2,7 +2,7 @@
 
 use nm_lanes::Gate;
 use nm_leg::LegPart;
-use nm_mirror::{Glance, Mirror, StripeStatus};
+use nm_mirror::{Glance, Mirror, Naming, StripeStatus};
 use std::alloc::{AllocError, Global};
 use std::sync::Wait;
 use std::time::Clock;
@@ -32,10 +32,10 @@ fn put_stopped_on(glances: &[Glance], leg: u8, text: &mut String) -> Result<(), 
 }
 
 /// Puts a line a leg on which stripes have stopped: it was their last one in sync.
-pub fn put_stopped<R: Wait + Clock, L: LegPart, G: Gate + Drop>(
+pub fn put_stopped<R: Wait + Clock, L: LegPart, G: Gate + Drop, J: Naming>(
     rt: &R,
     alloc: Global,
-    mirror: &Mirror<L, G>,
+    mirror: &Mirror<L, G, J>,
     text: &mut String,
 ) -> Result<(), AllocError> {
     let Ok(glances) = mirror.glance(rt, alloc) else {

@@ -4,7 +4,7 @@ ghost use Rattle.sha2.specs.Sha256.{sha256};
 
 use nm_lanes::Gate;
 use nm_leg::LegPart;
-use nm_mirror::{LastEntries, Mirror};
+use nm_mirror::{LastEntries, Mirror, Naming};
 use nm_replay::{Block, Entry, Kind};
 use sha2::{Digest, Sha256};
 use std::alloc::{AllocError, Global};
@@ -50,10 +50,10 @@ fn put_entries(stripe: u32, last: &LastEntries, text: &mut String) -> Result<(),
 }
 
 /// The answer to `history`. The stripe is held only while its entries are copied.
-pub fn put_history<R: Wait + Clock, L: LegPart, G: Gate + Drop>(
+pub fn put_history<R: Wait + Clock, L: LegPart, G: Gate + Drop, J: Naming>(
     rt: &R,
     alloc: Global,
-    mirror: &Mirror<L, G>,
+    mirror: &Mirror<L, G, J>,
     stripe: u32,
     text: &mut String,
 ) -> Result<(), AllocError> {

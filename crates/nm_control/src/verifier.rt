@@ -5,7 +5,7 @@ use crate::repairs::Repairs;
 use crate::verify_desk::{VerifyDesk, VerifyStage, Verifying};
 use nm_lanes::Gate;
 use nm_leg::LegPart;
-use nm_mirror::{Cursor, Findings, MOST_BYTES, Mirror, Pass, Seen};
+use nm_mirror::{Cursor, Findings, MOST_BYTES, Mirror, Naming, Pass, Seen};
 use nm_reports::LogLines;
 use nm_service::Interval;
 use std::alloc::{AllocError, Global};
@@ -56,11 +56,11 @@ impl Verifier {
 
     /// Compares two legs by one run, and pauses where a write came between. Where they differ and a
     /// leg is repaired, they are compared once more after that.
-    fn look<R: Wait + Clock, L: LegPart, G: Gate + Drop>(
+    fn look<R: Wait + Clock, L: LegPart, G: Gate + Drop, J: Naming>(
         &mut self,
         rt: &R,
-        mirror: &Mirror<L, G>,
-        pass: &mut Pass<L>,
+        mirror: &Mirror<L, G, J>,
+        pass: &mut Pass<L, J>,
         known: &mut Verifying,
     ) {
         let before = known.round;
@@ -82,11 +82,11 @@ impl Verifier {
 
     /// Has the run there written anew for the sake of a leg, as the others hold it. Whether it was,
     /// or is to be tried again.
-    fn repair<R: Wait + Clock, L: LegPart, G: Gate + Drop>(
+    fn repair<R: Wait + Clock, L: LegPart, G: Gate + Drop, J: Naming>(
         &mut self,
         rt: &R,
-        mirror: &Mirror<L, G>,
-        pass: &mut Pass<L>,
+        mirror: &Mirror<L, G, J>,
+        pass: &mut Pass<L, J>,
         at: Cursor,
         repairs: &mut Repairs,
     ) -> bool {
@@ -115,11 +115,11 @@ impl Verifier {
     /// Takes a turn at a verification that was asked for, at this time in milliseconds, and tells
     /// how it begins, goes on and ends; what it repairs is written through the pass. How many runs
     /// it looked at, at most; none where none goes on.
-    pub fn turn<R: Wait + Clock, L: LegPart, G: Gate + Drop>(
+    pub fn turn<R: Wait + Clock, L: LegPart, G: Gate + Drop, J: Naming>(
         &mut self,
         rt: &R,
-        mirror: &Mirror<L, G>,
-        pass: &mut Pass<L>,
+        mirror: &Mirror<L, G, J>,
+        pass: &mut Pass<L, J>,
         desk: &VerifyDesk,
         lines: &LogLines,
         now: u64,
@@ -143,10 +143,10 @@ impl Verifier {
     }
 
     /// Tells that a verification begins.
-    fn begin<R: Wait + Clock, L: LegPart, G: Gate + Drop>(
+    fn begin<R: Wait + Clock, L: LegPart, G: Gate + Drop, J: Naming>(
         &mut self,
         rt: &R,
-        mirror: &Mirror<L, G>,
+        mirror: &Mirror<L, G, J>,
         desk: &VerifyDesk,
         lines: &LogLines,
         known: &Verifying,
@@ -163,10 +163,10 @@ impl Verifier {
     }
 
     /// Notes how far it is, and tells it at the end, and every ten seconds before.
-    fn end_turn<R: Wait + Clock, L: LegPart, G: Gate + Drop>(
+    fn end_turn<R: Wait + Clock, L: LegPart, G: Gate + Drop, J: Naming>(
         &mut self,
         rt: &R,
-        mirror: &Mirror<L, G>,
+        mirror: &Mirror<L, G, J>,
         desk: &VerifyDesk,
         lines: &LogLines,
         known: &Verifying,
@@ -188,10 +188,10 @@ impl Verifier {
     }
 
     /// Tells how it stands: a warning where legs differ, or could not be compared.
-    fn tell<R: Wait + Clock, L: LegPart, G: Gate + Drop>(
+    fn tell<R: Wait + Clock, L: LegPart, G: Gate + Drop, J: Naming>(
         &self,
         rt: &R,
-        mirror: &Mirror<L, G>,
+        mirror: &Mirror<L, G, J>,
         lines: &LogLines,
         known: &Verifying,
     ) {
@@ -217,10 +217,10 @@ impl Verifier {
     }
 
     /// Tells of which bytes of the export this is so, if it is of some.
-    fn tell_bytes<R: Wait, L: LegPart, G: Gate + Drop>(
+    fn tell_bytes<R: Wait, L: LegPart, G: Gate + Drop, J: Naming>(
         &self,
         rt: &R,
-        mirror: &Mirror<L, G>,
+        mirror: &Mirror<L, G, J>,
         lines: &LogLines,
         what: &str,
         found: &Findings,

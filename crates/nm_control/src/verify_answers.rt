@@ -6,7 +6,7 @@ use crate::verify_desk::VerifyDesk;
 use nm_lanes::Gate;
 use nm_leg::LegPart;
 use nm_leg_files::MakesLegs;
-use nm_mirror::{Glance, LegStatus, StripeStatus};
+use nm_mirror::{Glance, LegStatus, Naming, StripeStatus};
 use nm_stripe::LegState;
 use std::alloc::{AllocError, Global};
 use std::sync::Wait;
@@ -43,9 +43,9 @@ fn is_last(glance: &Glance, leg: u8) -> bool {
 }
 
 /// Puts how the verification stands.
-pub fn put_known<R: Wait, L: LegPart, G: Gate + Drop, N: RenewsLegs<L>, M: MakesLegs<L>>(
+pub fn put_known<R: Wait, L: LegPart, G: Gate + Drop, J: Naming, N: RenewsLegs<L>, M: MakesLegs<L>>(
     rt: &R,
-    server: &Controlled<'_, L, G, N, M>,
+    server: &Controlled<'_, L, G, J, N, M>,
     text: &mut String,
 ) -> Result<(), AllocError> {
     let known = server.orders.verify().known(rt);
@@ -59,9 +59,9 @@ fn is_last_of_any(stripes: &[Glance], leg: u8) -> bool {
 }
 
 // Asks for a verification, and puts that it is started, or how the one stands that goes on.
-fn put_asked<R: Wait, L: LegPart, G: Gate + Drop, N: RenewsLegs<L>, M: MakesLegs<L>>(
+fn put_asked<R: Wait, L: LegPart, G: Gate + Drop, J: Naming, N: RenewsLegs<L>, M: MakesLegs<L>>(
     rt: &R,
-    server: &Controlled<'_, L, G, N, M>,
+    server: &Controlled<'_, L, G, J, N, M>,
     repaired: Option<u8>,
     text: &mut String,
 ) -> Result<(), AllocError> {
@@ -74,10 +74,17 @@ fn put_asked<R: Wait, L: LegPart, G: Gate + Drop, N: RenewsLegs<L>, M: MakesLegs
 /// The answer to `verify`, and where a leg is named, which is repaired, to `verify repair`: it is
 /// started, unless one goes on, no stripe has two legs in sync, or that leg is the last one in sync
 /// of a stripe.
-pub fn put_verify<R: Wait + Clock, L: LegPart, G: Gate + Drop, N: RenewsLegs<L>, M: MakesLegs<L>>(
+pub fn put_verify<
+    R: Wait + Clock,
+    L: LegPart,
+    G: Gate + Drop,
+    J: Naming,
+    N: RenewsLegs<L>,
+    M: MakesLegs<L>,
+>(
     rt: &R,
     alloc: Global,
-    server: &Controlled<'_, L, G, N, M>,
+    server: &Controlled<'_, L, G, J, N, M>,
     repaired: Option<u8>,
     text: &mut String,
 ) -> Result<(), AllocError> {

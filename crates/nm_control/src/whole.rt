@@ -7,7 +7,7 @@ use nm_commands::VERSION;
 use nm_lanes::Gate;
 use nm_leg::LegPart;
 use nm_leg_files::MakesLegs;
-use nm_mirror::{Glance, Mirror, StripeStatus};
+use nm_mirror::{Glance, Mirror, Naming, StripeStatus};
 use nm_reports::is_printable;
 use nm_service::Ailments;
 use nm_stripe::LegState;
@@ -36,7 +36,7 @@ fn count_stripe(glance: &Glance, found: &mut Ailments) {
 }
 
 // How many legs are paused.
-fn count_paused<L: LegPart, G: Gate + Drop>(mirror: &Mirror<L, G>) -> u64 {
+fn count_paused<L: LegPart, G: Gate + Drop, J: Naming>(mirror: &Mirror<L, G, J>) -> u64 {
     let mut count = 0u64;
     for leg in 0..mirror.legs() {
         count = count.saturating_add(u64::from(mirror.is_paused(leg)));
@@ -45,11 +45,14 @@ fn count_paused<L: LegPart, G: Gate + Drop>(mirror: &Mirror<L, G>) -> u64 {
 }
 
 // What is not well in the mirror, whose stripes were just seen.
-fn ailments<R: Wait + Clock, L: LegPart, G: Gate + Drop, N: RenewsLegs<L>, M: MakesLegs<L>>(
-    rt: &R,
-    server: &Controlled<'_, L, G, N, M>,
-    glances: &[Glance],
-) -> Ailments {
+fn ailments<
+    R: Wait + Clock,
+    L: LegPart,
+    G: Gate + Drop,
+    J: Naming,
+    N: RenewsLegs<L>,
+    M: MakesLegs<L>,
+>(rt: &R, server: &Controlled<'_, L, G, J, N, M>, glances: &[Glance]) -> Ailments {
     let (orders, saves) = (server.orders, server.info.saves());
     let mut found = Ailments {
         stopped: 0,
@@ -79,9 +82,16 @@ fn put_export(size: u64, name: &str, text: &mut String) -> Result<(), AllocError
 
 // Puts how well the mirror is, in one word, its export, whose name stands there if it is printable,
 // and the server's version.
-fn put_whole<R: Wait + Clock, L: LegPart, G: Gate + Drop, N: RenewsLegs<L>, M: MakesLegs<L>>(
+fn put_whole<
+    R: Wait + Clock,
+    L: LegPart,
+    G: Gate + Drop,
+    J: Naming,
+    N: RenewsLegs<L>,
+    M: MakesLegs<L>,
+>(
     rt: &R,
-    server: &Controlled<'_, L, G, N, M>,
+    server: &Controlled<'_, L, G, J, N, M>,
     glances: &[Glance],
     text: &mut String,
 ) -> Result<(), AllocError> {
@@ -93,8 +103,8 @@ fn put_whole<R: Wait + Clock, L: LegPart, G: Gate + Drop, N: RenewsLegs<L>, M: M
 }
 
 // Puts a line a leg that is paused.
-fn put_paused<L: LegPart, G: Gate + Drop>(
-    mirror: &Mirror<L, G>,
+fn put_paused<L: LegPart, G: Gate + Drop, J: Naming>(
+    mirror: &Mirror<L, G, J>,
     text: &mut String,
 ) -> Result<(), AllocError> {
     for leg in 0..mirror.legs() {
@@ -106,10 +116,17 @@ fn put_paused<L: LegPart, G: Gate + Drop>(
 }
 
 /// The answer to `status`.
-pub fn put_status<R: Wait + Clock, L: LegPart, G: Gate + Drop, N: RenewsLegs<L>, M: MakesLegs<L>>(
+pub fn put_status<
+    R: Wait + Clock,
+    L: LegPart,
+    G: Gate + Drop,
+    J: Naming,
+    N: RenewsLegs<L>,
+    M: MakesLegs<L>,
+>(
     rt: &R,
     alloc: Global,
-    server: &Controlled<'_, L, G, N, M>,
+    server: &Controlled<'_, L, G, J, N, M>,
     text: &mut String,
 ) -> Result<(), AllocError> {
     let Ok(stripes) = server.mirror.glance(rt, alloc) else {
@@ -124,8 +141,8 @@ pub fn put_status<R: Wait + Clock, L: LegPart, G: Gate + Drop, N: RenewsLegs<L>,
 }
 
 /// The answer to `pause`.
-pub fn put_pause<L: LegPart, G: Gate + Drop>(
-    mirror: &Mirror<L, G>,
+pub fn put_pause<L: LegPart, G: Gate + Drop, J: Naming>(
+    mirror: &Mirror<L, G, J>,
     leg: u8,
     text: &mut String,
 ) -> Result<(), AllocError> {
@@ -137,8 +154,8 @@ pub fn put_pause<L: LegPart, G: Gate + Drop>(
 }
 
 /// The answer to `resume`.
-pub fn put_resume<L: LegPart, G: Gate + Drop>(
-    mirror: &Mirror<L, G>,
+pub fn put_resume<L: LegPart, G: Gate + Drop, J: Naming>(
+    mirror: &Mirror<L, G, J>,
     leg: u8,
     text: &mut String,
 ) -> Result<(), AllocError> {

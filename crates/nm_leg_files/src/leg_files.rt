@@ -38,7 +38,7 @@ const CHUNK: u64 = REGION;
 pub type Leg = FileLeg<CountingFile>;
 
 /// The mirror that the program serves.
-pub type FileMirror = Mirror<Leg, NoGate>;
+pub type FileMirror<J> = Mirror<Leg, NoGate, J>;
 
 /// The legs' files, each opened once for all stripes and locked, so that no other server and no
 /// other leg uses it. Some may be missing, where that is allowed.

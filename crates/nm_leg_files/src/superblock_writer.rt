@@ -8,7 +8,7 @@ use crate::window::SlotsAt;
 use nm_geometry::{LegSet, MOST_LEGS, MOST_STRIPES};
 use nm_lanes::Gate;
 use nm_leg::LegPart;
-use nm_mirror::{Doubts, MOST_SPANS, Mirror, SaveOrder};
+use nm_mirror::{Doubts, MOST_SPANS, Mirror, Naming, SaveOrder};
 use nm_reports::{LogLines, NOT_MADE, SaveStatus};
 use nm_saves::{SlotFile, SuperblockFiles};
 use nm_superblock::{LegSets, SpanMap, Superblock};
@@ -167,10 +167,10 @@ impl<S: SlotFile> SuperblockWriter<S> {
     }
 
     // Takes a leg out whose file failed. Whether saves go on without it.
-    fn take_out<R: Wait, L: LegPart, G: Gate + Drop>(
+    fn take_out<R: Wait, L: LegPart, G: Gate + Drop, J: Naming>(
         &self,
         rt: &R,
-        mirror: &Mirror<L, G>,
+        mirror: &Mirror<L, G, J>,
         leg: u8,
         lines: &LogLines,
     ) -> bool {
@@ -207,10 +207,10 @@ impl<S: SlotFile> SuperblockWriter<S> {
     // Tries once to save what the mirror is, and says what follows. The files of legs that have
     // failed and were attached since are settled and read again first. At the end the times of
     // legs' last changes are told.
-    fn try_save<R: Wait, L: LegPart, G: Gate + Drop>(
+    fn try_save<R: Wait, L: LegPart, G: Gate + Drop, J: Naming>(
         &mut self,
         rt: &R,
-        mirror: &Mirror<L, G>,
+        mirror: &Mirror<L, G, J>,
         status: &SaveStatus,
         ended: Option<[u64; 8]>,
     ) -> AfterTry {
@@ -237,10 +237,10 @@ impl<S: SlotFile> SuperblockWriter<S> {
     }
 
     // Saves what the mirror is, without the legs whose files fail. Whether it was saved.
-    fn save<R: Wait, L: LegPart, G: Gate + Drop>(
+    fn save<R: Wait, L: LegPart, G: Gate + Drop, J: Naming>(
         &mut self,
         rt: &R,
-        mirror: &Mirror<L, G>,
+        mirror: &Mirror<L, G, J>,
         status: &SaveStatus,
         lines: &LogLines,
         ended: Option<[u64; 8]>,
@@ -262,10 +262,10 @@ impl<S: SlotFile> SuperblockWriter<S> {
     }
 
     /// Saves what the mirror is. Whether that could be done.
-    pub fn save_once<R: Wait, L: LegPart, G: Gate + Drop>(
+    pub fn save_once<R: Wait, L: LegPart, G: Gate + Drop, J: Naming>(
         &mut self,
         rt: &R,
-        mirror: &Mirror<L, G>,
+        mirror: &Mirror<L, G, J>,
         status: &SaveStatus,
         lines: &LogLines,
     ) -> bool {
@@ -274,10 +274,10 @@ impl<S: SlotFile> SuperblockWriter<S> {
 
     /// Saves what the mirror is, though that could not be done before: each file that has failed is
     /// settled and read again first. Whether it could be done.
-    pub fn save_again<R: Wait, L: LegPart, G: Gate + Drop>(
+    pub fn save_again<R: Wait, L: LegPart, G: Gate + Drop, J: Naming>(
         &mut self,
         rt: &R,
-        mirror: &Mirror<L, G>,
+        mirror: &Mirror<L, G, J>,
         status: &SaveStatus,
         lines: &LogLines,
     ) -> bool {
@@ -295,10 +295,10 @@ impl<S: SlotFile> SuperblockWriter<S> {
 
     /// Saves what the mirror is, and settles the legs, once nothing else is at work: from then on
     /// nothing is written to them. Whether it was saved.
-    pub fn settle<R: Wait, L: LegPart, G: Gate + Drop, D: Doubts>(
+    pub fn settle<R: Wait, L: LegPart, G: Gate + Drop, J: Naming, D: Doubts>(
         &mut self,
         rt: &R,
-        mirror: &Mirror<L, G>,
+        mirror: &Mirror<L, G, J>,
         doubts: &D,
         status: &SaveStatus,
         lines: &LogLines,
@@ -312,10 +312,10 @@ impl<S: SlotFile> SuperblockWriter<S> {
 
     /// Saves for the last time, with the times of legs' last changes: that the mirror ends in good
     /// order, where it does, with no leg in doubt.
-    pub fn end<R: Wait, L: LegPart, G: Gate + Drop>(
+    pub fn end<R: Wait, L: LegPart, G: Gate + Drop, J: Naming>(
         &mut self,
         rt: &R,
-        mirror: &Mirror<L, G>,
+        mirror: &Mirror<L, G, J>,
         status: &SaveStatus,
         lines: &LogLines,
         changed: &[u64; 8],

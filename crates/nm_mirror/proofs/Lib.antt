@@ -1,6 +1,7 @@
 mod ClaimingLemmas
 mod CountedLemmas
 mod GlanceLemmas
+mod HeldLemmas
 mod ListLemmas
 mod MarkedLemmas
 mod NumberLemmas

@@ -1,5 +1,6 @@
 -- The numbers of the locks of a mirror, and of the parts of a pass, are those of their places.
-use Rattle.std.proofs.Common.{◌≡◌, ℕ, zero, suc, ◌<◌, List, [], ◌∷◌, ◌++◌, length, map, reverse, get_or, set, slice_get, None, Some, inl, inr, sym, ap, subst, ◌∙◌, arith}
+use Rattle.std.proofs.Common.{◌≡◌, ℕ, zero, suc, ◌<◌, List, [], ◌∷◌, ◌++◌, length, take, map, reverse, get_or, set, slice_get, None, Some, inl, inr, sym, ap, subst, ◌∙◌, arith}
+use Rattle.std.proofs.Math.Seq.{take-append_seam}
 use Rattle.std.proofs.lemmas.List.{length-map, reverse-append, reverse-reverse}
 use Rattle.std.proofs.lemmas.Option.{same_Some, slice_get_cases, slice_get_past}
 use Rattle.nm_geometry.specs.Geometry.{Geometry}
@@ -79,3 +80,12 @@ append-counted (p ∷ parts) part none counted (suc k) d inside = append-counted
 -- one part more that has counted nothing
 pub one-counted : (parts new : List PartState) (part : PartState) → HasCountedNothing parts → part.count ≡ 0 → new ≡ parts ++ part ∷ [] → HasCountedNothing new
 one-counted parts new part none counted added = rw added (append-counted parts part none counted)
+
+-- so they are once what has them was written anew, with the same numbers
+pub order-kept : {A : Type 0} (number : A → ℕ) (len : ℕ) (news olds rest : List A) → len ≡ length news
+    → map number news ≡ map number olds → AreInOrder (map number olds)
+    → AreInOrder (map number (take len (news ++ rest)))
+order-kept number len news olds rest long same order =
+    subst (λ (numbers : List ℕ). AreInOrder numbers)
+    (sym (ap (map number) (ap (λ (n : ℕ). take n (news ++ rest)) long ∙ take-append_seam news rest) ∙ same))
+    order

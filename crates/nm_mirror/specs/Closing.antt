@@ -13,23 +13,23 @@ count_of None = 0
 count_of (Some part) = part.count
 
 -- what the pass counted in this stripe
-abbrev pub count_in : {L : Type 0} → ℕ → Pass L → ℕ
+abbrev pub count_in : {L J : Type 0} → ℕ → Pass L J → ℕ
 count_in stripe pass = count_of (slice_get pass.parts.items stripe)
 
 -- what all passes counted in this stripe
-abbrev pub count_in_all : {L : Type 0} → ℕ → List (Pass L) → ℕ
+abbrev pub count_in_all : {L J : Type 0} → ℕ → List (Pass L J) → ℕ
 count_in_all stripe passes = sum_by (count_in stripe) passes
 
 -- the stripe's history has had just the entries that the passes counted and that its records have
-abbrev pub IsEven : {L : Type 0} → List (Pass L) → EndOf → Type 0
+abbrev pub IsEven : {L J : Type 0} → List (Pass L J) → EndOf → Type 0
 IsEven passes end = end.total ≡ count_in_all end.stripe passes + end.landed
 
 -- each of the ends is even
-abbrev pub AreEven : {L : Type 0} → List (Pass L) → List EndOf → Type 0
+abbrev pub AreEven : {L J : Type 0} → List (Pass L J) → List EndOf → Type 0
 AreEven passes ends = All (IsEven passes) ends
 
 -- this end is the first that is not even
-pub record IsFirstUneven {L : Type 0} (passes : List (Pass L)) (ends : List EndOf)
+pub record IsFirstUneven {L J : Type 0} (passes : List (Pass L J)) (ends : List EndOf)
     (end : EndOf) : Type 0 where
   pub place : ℕ
   pub found : slice_get ends place ≡ Some end
@@ -38,12 +38,12 @@ pub record IsFirstUneven {L : Type 0} (passes : List (Pass L)) (ends : List EndO
 
 -- why the totals of a mirror's stripes are refused where so many passes were made: one is missing;
 -- or else a stripe is not even, or an allocation failed
-abbrev pub RefusesTotals : {L : Type 0} → ℕ → List (Pass L) → Refused L → Type 0
+abbrev pub RefusesTotals : {L J : Type 0} → ℕ → List (Pass L J) → Refused L → Type 0
 RefusesTotals made passes PassesMissing = length passes < made
 RefusesTotals made passes (Uneven end) = (made ≤ length passes) × ¬ IsEven passes end
 RefusesTotals made passes Memory = made ≤ length passes
 RefusesTotals made passes refused = ⊥
 
 -- why a mirror is not closed with these passes: how many it made stands behind a lock
-abbrev pub RefusesClose : {L : Type 0} → List (Pass L) → Refused L → Type 0
+abbrev pub RefusesClose : {L J : Type 0} → List (Pass L J) → Refused L → Type 0
 RefusesClose passes refused = (made : ℕ) × RefusesTotals made passes refused

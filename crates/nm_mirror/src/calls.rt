@@ -11,14 +11,19 @@ use crate::bounds::within_bounds;
 use crate::lock::Lock;
 use crate::mirror::Mirror;
 use crate::pass::Pass;
+use nm_book::Naming;
 use nm_lanes::{CallError, Caller, Gate, flush_by, read_by, sync_by};
 use nm_leg::LegPart;
 use nm_replay::BLOCK_BYTES;
 use std::sync::Wait;
 
-impl<L: LegPart, G: Gate + Drop> Mirror<L, G> {
+impl<L: LegPart, G: Gate + Drop, J: Naming> Mirror<L, G, J> {
     /// The caller that has the pass of this number.
-    pub(crate) fn caller<'a, R: Wait>(&'a self, rt: &'a R, number: u32) -> Caller<'a, R, G, Lock<L>>
+    pub(crate) fn caller<'a, R: Wait>(
+        &'a self,
+        rt: &'a R,
+        number: u32,
+    ) -> Caller<'a, R, G, Lock<L, J>>
         ensures shape { result.shape.now ≡ self.now.shape }
         ensures locks { length result.locks.now ≡ self.now.shape.stripes }
     {
@@ -39,7 +44,7 @@ impl<L: LegPart, G: Gate + Drop> Mirror<L, G> {
     pub fn read_at<R: Wait>(
         &self,
         rt: &R,
-        pass: &mut Pass<L>,
+        pass: &mut Pass<L, J>,
         offset: u64,
         into: &mut [u8],
     ) -> Result<(), CallError>
@@ -63,7 +68,7 @@ impl<L: LegPart, G: Gate + Drop> Mirror<L, G> {
     pub fn read<R: Wait>(
         &self,
         rt: &R,
-        pass: &mut Pass<L>,
+        pass: &mut Pass<L, J>,
         from: u64,
         into: &mut [u8],
     ) -> Result<(), CallError>
@@ -87,7 +92,7 @@ impl<L: LegPart, G: Gate + Drop> Mirror<L, G> {
     /// Syncs every leg of every stripe. A leg that is out, or goes out by it, is passed over.
     ///
     /// Where a stripe cannot go on, the others are synced all the same.
-    pub fn flush<R: Wait>(&self, rt: &R, pass: &mut Pass<L>) -> Result<(), CallError>
+    pub fn flush<R: Wait>(&self, rt: &R, pass: &mut Pass<L, J>) -> Result<(), CallError>
         requires pass { length pass.old.parts.items ≡ self.now.shape.stripes }
         ensures ok { OnOk result (HasFlushed (Follows (leg_type L.model L.honest))
             self.now.shape.legs
@@ -104,7 +109,7 @@ impl<L: LegPart, G: Gate + Drop> Mirror<L, G> {
     pub fn sync_touched<R: Wait>(
         &self,
         rt: &R,
-        pass: &mut Pass<L>,
+        pass: &mut Pass<L, J>,
         offset: u64,
         len: u64,
     ) -> Result<(), CallError>

@@ -5,37 +5,41 @@ ghost use Rattle.nm_mirror.specs.Asks.{LetsPass};
 ghost use Rattle.nm_mirror.specs.Claiming.{ClaimsFor, LeavesGate};
 ghost use Rattle.nm_mirror.specs.ClaimingLeft.{ClaimsEach, ClaimsIfSaved, PushesWrite, TriesClaim};
 ghost use Rattle.nm_mirror.specs.ClaimingLeft.{with_none_left};
+ghost use Rattle.nm_mirror.specs.Holding.{with_stripe};
 ghost use Rattle.nm_mirror.specs.declared.ask.Ask.TheVariants.{Answer};
 
 use crate::ask::{Ask, refusal_of};
 use crate::held::Held;
 use crate::unclaimed::Unclaimed;
+use nm_book::Naming;
 use nm_leg::LegPart;
-use nm_stripe::{Refusal, Stripe};
+use nm_stripe::Refusal;
 use std::mem::replace;
 
 /// Pushes the write of this ticket to each leg that it owes.
-fn push_all<L: LegPart>(stripe: &mut Stripe<L>, ticket: u64)
-    ensures { PushesWrite (leg_type L.model L.honest) ticket stripe.old stripe.new }
+fn push_all<L: LegPart, J: Naming>(held: &mut Held<L, J>, ticket: u64)
+    ensures pushes { PushesWrite (leg_type L.model L.honest) ticket held.old.gated.stripe
+        held.new.gated.stripe }
+    ensures others { held.new ≡ with_stripe held.new.gated.stripe held.old }
 {
     'pushes: for turn in 0..8usize {
-        match stripe.next_owed(ticket) {
-            Some(leg) if (leg as usize) < stripe.legs() => {
-                let _ = stripe.push(ticket, leg);
+        match held.gated.stripe.next_owed(ticket) {
+            Some(leg) if (leg as usize) < held.gated.stripe.legs() => {
+                let _ = held.push_owed(ticket, leg);
             }
             _ => return,
         }
     }
 }
 
-impl<L: LegPart> Held<L> {
+impl<L: LegPart, J: Naming> Held<L, J> {
     /// Claims the write of this ticket, for nobody: its entries count among those of writes that
     /// were left. Whether it is gone.
     fn claim_for_nobody(&mut self, ticket: u64) -> bool
         requires saved { LetsPass self.old.gated.durable self.old.gated.stripe Answer }
         ensures { ClaimsFor ticket result self.old self.new }
     {
-        match self.gated.stripe.claim(ticket) {
+        match self.claim_ended(ticket) {
             Ok(written) => {
                 let count = written.count();
                 self.past.left = self.past.left.saturating_add(count);
@@ -64,7 +68,7 @@ impl<L: LegPart> Held<L> {
         ensures tries { TriesClaim (leg_type L.model L.honest) ticket result self.old self.new }
         ensures gate { LeavesGate self.old self.new }
     {
-        push_all(&mut self.gated.stripe, ticket);
+        push_all(self, ticket);
         self.claim_where_saved(ticket)
     }
 

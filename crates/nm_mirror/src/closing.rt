@@ -10,13 +10,14 @@ use crate::pass::Pass;
 use crate::refused::Refused;
 use crate::stripe_end::StripeEnd;
 use crate::totals::Totals;
+use nm_book::Naming;
 use nm_lanes::Gate;
 use nm_leg::LegPart;
 use nm_replay::Memory;
 use std::alloc::Global;
 
 /// What the pass counted in this stripe.
-fn count_in<L>(pass: &Pass<L>, stripe: u32) -> u64
+fn count_in<L, J: Naming>(pass: &Pass<L, J>, stripe: u32) -> u64
     ensures { result ≡ count_in stripe pass.now }
 {
     match pass.parts.get(stripe as usize) {
@@ -26,7 +27,7 @@ fn count_in<L>(pass: &Pass<L>, stripe: u32) -> u64
 }
 
 /// What all passes counted in this stripe.
-fn count_in_all<L>(passes: &[Pass<L>], stripe: u32) -> u128
+fn count_in_all<L, J: Naming>(passes: &[Pass<L, J>], stripe: u32) -> u128
     ensures { result ≡ count_in_all stripe passes.now }
 {
     let mut sum = 0u128;
@@ -38,7 +39,7 @@ fn count_in_all<L>(passes: &[Pass<L>], stripe: u32) -> u128
 
 /// Whether the stripe's history has had just the entries that the passes counted and that its
 /// records have.
-fn is_even<L>(end: &StripeEnd<L>, passes: &[Pass<L>]) -> bool
+fn is_even<L, J: Naming>(end: &StripeEnd<L>, passes: &[Pass<L, J>]) -> bool
     ensures { IsTrue result ↔ IsEven passes.now end.now }
 {
     let sum = count_in_all(passes, end.stripe()).checked_add(u128::from(end.landed()));
@@ -48,7 +49,10 @@ fn is_even<L>(end: &StripeEnd<L>, passes: &[Pass<L>]) -> bool
 /// The totals of these ends.
 ///
 /// Refused with the first of them that is not even.
-fn even_totals<L>(ends: Vec<StripeEnd<L>>, passes: &[Pass<L>]) -> Result<Totals<L>, StripeEnd<L>>
+fn even_totals<L, J: Naming>(
+    ends: Vec<StripeEnd<L>>,
+    passes: &[Pass<L, J>],
+) -> Result<Totals<L>, StripeEnd<L>>
     ensures ends { IfOk result (λ totals. totals.ends.items ≡ ends.items) }
     ensures even { IfOk result (λ totals. AreEven passes.now totals.ends.items) }
     ensures uneven { IfErr result (IsFirstUneven passes.now ends.items) }
@@ -64,7 +68,10 @@ fn even_totals<L>(ends: Vec<StripeEnd<L>>, passes: &[Pass<L>]) -> Result<Totals<
 ///
 /// Behind each lock is the stripe of its place. No contract can say so, so it is looked at: of
 /// another stripe no end is told, as where memory is refused.
-fn ends_of<L: LegPart>(alloc: Global, locks: &mut [Lock<L>]) -> Result<Vec<StripeEnd<L>>, Memory>
+fn ends_of<L: LegPart, J: Naming>(
+    alloc: Global,
+    locks: &mut [Lock<L, J>],
+) -> Result<Vec<StripeEnd<L>>, Memory>
     ensures each { IfOk result (λ ends. length ends.items ≡ length locks.old) }
     ensures own { IfOk result (λ ends. AreInOrder (map (λ end. end.stripe) ends.items)) }
     ensures locks { length locks.new ≡ length locks.old }
@@ -83,7 +90,10 @@ fn ends_of<L: LegPart>(alloc: Global, locks: &mut [Lock<L>]) -> Result<Vec<Strip
 }
 
 /// Of the stripes behind these locks the end of the first that is not even. It takes no memory.
-fn first_uneven<L: LegPart>(locks: &mut [Lock<L>], passes: &[Pass<L>]) -> Option<StripeEnd<L>>
+fn first_uneven<L: LegPart, J: Naming>(
+    locks: &mut [Lock<L, J>],
+    passes: &[Pass<L, J>],
+) -> Option<StripeEnd<L>>
     ensures uneven { IfSome result (λ end. ¬ IsEven passes.now end) }
     ensures locks { length locks.new ≡ length locks.old }
     ensures numbers { map (λ lock. lock.number) locks.new ≡ map (λ lock. lock.number) locks.old }
@@ -101,11 +111,11 @@ fn first_uneven<L: LegPart>(locks: &mut [Lock<L>], passes: &[Pass<L>]) -> Option
 ///
 /// Refused as `PassesMissing`, as `Uneven` with the first end that is, or as `Memory`, the first
 /// whose condition holds.
-fn totals_of<L: LegPart>(
+fn totals_of<L: LegPart, J: Naming>(
     alloc: Global,
-    locks: &mut [Lock<L>],
+    locks: &mut [Lock<L, J>],
     made: u32,
-    passes: &[Pass<L>],
+    passes: &[Pass<L, J>],
 ) -> Result<Totals<L>, Refused<L>>
     ensures stripes { IfOk result (λ totals. length totals.ends.items ≡ length locks.old) }
     ensures own { IfOk result (λ totals. AreInOrder (map (λ end. end.stripe) totals.ends.items)) }
@@ -130,7 +140,7 @@ fn totals_of<L: LegPart>(
     }
 }
 
-impl<L: LegPart, G: Gate + Drop> Mirror<L, G> {
+impl<L: LegPart, G: Gate + Drop, J: Naming> Mirror<L, G, J> {
     /// Ends the mirror, with all of its passes: for each stripe, by rising number, what it has had,
     /// which is what the passes counted and its records have.
     ///
@@ -140,8 +150,8 @@ impl<L: LegPart, G: Gate + Drop> Mirror<L, G> {
     pub fn close(
         self,
         alloc: Global,
-        passes: Vec<Pass<L>>,
-    ) -> Result<Totals<L>, (Refused<L>, Self, Vec<Pass<L>>)>
+        passes: Vec<Pass<L, J>>,
+    ) -> Result<Totals<L>, (Refused<L>, Self, Vec<Pass<L, J>>)>
         ensures stripes { IfOk result (λ totals.
             length totals.ends.items ≡ length self.locks.items) }
         ensures own { IfOk result (λ totals.

@@ -12,6 +12,7 @@ ghost use Rattle.nm_stripe.specs.Read.{LeavesTarget};
 ghost use Rattle.nm_stripe.specs.declared.step.Step.TheVariants as step;
 
 use crate::held::Held;
+use nm_book::Naming;
 use nm_fanout::Data;
 use nm_leg::LegPart;
 use nm_part::Part;
@@ -20,7 +21,7 @@ use nm_stripe::{Beginning, Copying, Reach, Reading, Refusal, Syncing, Written};
 /// Each step asks the stripe through the part once, and changes nothing else that is held. A begin,
 /// a claim, a flush and a copy may be done only where the gate lets it pass: no contract of a lane
 /// can say that of what stands behind a lock.
-impl<L: LegPart> Held<L> {
+impl<L: LegPart, J: Naming> Held<L, J> {
     /// Begins a write.
     #[inline(always)]
     pub(crate) fn begin(

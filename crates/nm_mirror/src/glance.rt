@@ -7,6 +7,7 @@ use crate::last_entries::LastEntries;
 use crate::lock::Lock;
 use crate::mirror::Mirror;
 use crate::status::{StripeStatus, status_of};
+use nm_book::Naming;
 use nm_geometry::MOST_LEGS;
 use nm_lanes::Gate;
 use nm_leg::LegPart;
@@ -60,8 +61,8 @@ fn unsynced_of<L: LegPart>(stripe: &Stripe<L>) -> [u64; 8] {
 
 impl Glance {
     // One at the stripe behind this lock, which is to be looked at, also for what is asked for.
-    fn new<L: LegPart>(
-        lock: &Lock<L>,
+    fn new<L: LegPart, J: Naming>(
+        lock: &Lock<L, J>,
         unsynced: Option<[u64; 8]>,
         last: Option<LastEntries>,
     ) -> Glance
@@ -103,7 +104,12 @@ impl Glance {
 
     // Looks at the stripe, if that is still to be done and nobody has it right now. Where the same
     // thread may have had it since the first look, it stays busy once that is `long` ago.
-    fn look<L: LegPart>(&mut self, lock: &Lock<L>, alloc: Global, long: bool) -> Result<(), Memory>
+    fn look<L: LegPart, J: Naming>(
+        &mut self,
+        lock: &Lock<L, J>,
+        alloc: Global,
+        long: bool,
+    ) -> Result<(), Memory>
         requires { IsGlanceAt L lock.now.number self.old }
         ensures { IsGlanceAt L lock.now.number self.new }
     {
@@ -144,8 +150,8 @@ impl fmt::Display for Glance {
 }
 
 // Looks once at each stripe that is to be looked at. Whether some are left.
-fn look_once<L: LegPart>(
-    locks: &[Lock<L>],
+fn look_once<L: LegPart, J: Naming>(
+    locks: &[Lock<L, J>],
     glances: &mut [Glance],
     alloc: Global,
     long: bool,
@@ -163,9 +169,9 @@ fn look_once<L: LegPart>(
 }
 
 // Looks at the stripes until each was seen or is busy.
-fn look_all<R: Clock, L: LegPart>(
+fn look_all<R: Clock, L: LegPart, J: Naming>(
     rt: &R,
-    locks: &[Lock<L>],
+    locks: &[Lock<L, J>],
     glances: &mut [Glance],
     alloc: Global,
 ) -> Result<(), Memory>
@@ -190,7 +196,7 @@ fn look_all<R: Clock, L: LegPart>(
     Ok(())
 }
 
-impl<L: LegPart, G: Gate + Drop> Mirror<L, G> {
+impl<L: LegPart, G: Gate + Drop, J: Naming> Mirror<L, G, J> {
     /// What each stripe is doing, by rising number of the stripes, within about a second and a half
     /// however many of them stay taken.
     pub fn glance<R: Wait + Clock>(&self, rt: &R, alloc: Global) -> Result<Vec<Glance>, Memory>

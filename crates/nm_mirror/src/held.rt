@@ -15,19 +15,22 @@ ghost use Rattle.nm_stripe.specs.End.{end_of};
 use crate::opening::only_bit;
 use crate::stripe_end::{Past, StripeEnd};
 use crate::unclaimed::Unclaimed;
+use nm_book::Naming;
 use nm_gate::{DurableState, GatedStripe};
 use nm_leg::LegPart;
 use nm_stripe::{At, Policy, Stripe};
 use std::alloc::Global;
+use std::marker::PhantomData;
 
 /// A stripe and its gate, how many times it was opened anew, what its earlier openings have had,
 /// and which writes nobody is to claim whose call has ended.
 #[derive(Drop)]
-pub struct Held<L: LegPart> {
+pub struct Held<L: LegPart, J: Naming> {
     pub(crate) gated: GatedStripe<L>,
     pub(crate) openings: u64,
     pub(crate) past: Past,
     pub(crate) unclaimed: Unclaimed,
+    of: PhantomData<J>,
 }
 
 /// Whether the superblock may call no leg of so many in sync but the master.
@@ -43,7 +46,7 @@ fn names_at_most(durable: &DurableState, legs: u8, master: u8) -> bool
     true
 }
 
-impl<L: LegPart> Held<L> {
+impl<L: LegPart, J: Naming> Held<L, J> {
     /// A stripe in its first opening.
     pub(crate) fn new(gated: GatedStripe<L>) -> Self
         ensures gated { result.gated ≡ gated }
@@ -56,6 +59,7 @@ impl<L: LegPart> Held<L> {
             openings: 0,
             past: Past::default(),
             unclaimed: Unclaimed::new(),
+            of: PhantomData,
         }
     }
 

@@ -3,6 +3,7 @@ ghost use Rattle.std.specs.Prelude.{◌≡◌, ◌≤◌, length, IfOk};
 ghost use Rattle.nm_mirror.specs.Reopening.{sum_of};
 
 use crate::held::Held;
+use nm_book::Naming;
 use nm_leg::LegPart;
 use nm_replay::{Entry, Memory};
 use std::alloc::Global;
@@ -43,7 +44,7 @@ impl LastEntries {
     }
 }
 
-impl<L: LegPart> Held<L> {
+impl<L: LegPart, J: Naming> Held<L, J> {
     /// The entries that the stripe keeps, and how many it has had.
     pub(crate) fn last_entries(&self, alloc: Global) -> Result<LastEntries, Memory>
         ensures entries { IfOk result (λ last.

@@ -8,6 +8,7 @@ ghost use Rattle.nm_rules.specs.Attach.{Returns, attach_cause};
 ghost use Rattle.nm_rules.specs.Failing.{GoesOut, fail_cause};
 ghost use Rattle.nm_rules.specs.State.{left};
 ghost use Rattle.nm_mirror.specs.Counted.{FailsEach, FailsIn, fail_answer};
+ghost use Rattle.nm_mirror.specs.Holding.{with_stripe};
 ghost use Rattle.nm_mirror.specs.Counts.{attached_so, attaches, failed_so, fails};
 
 use crate::ask::Ask;
@@ -16,7 +17,7 @@ use crate::doubts::{Doubts, Returning};
 use crate::held::Held;
 use crate::lock::Lock;
 use crate::mirror::Mirror;
-use nm_gate::GatedStripe;
+use nm_book::Naming;
 use nm_geometry::MOST_LEGS;
 use nm_lanes::{CallKind, Gate, StepKind};
 use nm_leg::LegPart;
@@ -24,15 +25,18 @@ use nm_stripe::{LegState, Refusal, Stripe};
 use std::sync::{MutexGuard, Wait};
 
 /// Takes the leg out of this stripe, and counts what came of it.
-pub(crate) fn fail_in<L: LegPart>(stripe: &mut Stripe<L>, leg: u8, counts: &mut FailCounts)
-    requires leg { leg < length stripe.old.legs }
+fn fail_in<L: LegPart, J: Naming>(held: &mut Held<L, J>, leg: u8, counts: &mut FailCounts)
+    requires leg { leg < length held.old.gated.stripe.legs }
     requires room { fails counts.old < 2 ^ 64 - 1 }
-    ensures counts { counts.new ≡ failed_so (fail_cause stripe.old leg) counts.old }
+    ensures counts { counts.new ≡ failed_so (fail_cause held.old.gated.stripe leg) counts.old }
     ensures one { fails counts.new ≡ fails counts.old + 1 }
-    ensures fails { fail_cause stripe.old leg ≡ None → GoesOut stripe.old stripe.new leg }
-    ensures stays { IsSome (fail_cause stripe.old leg) → stripe.new ≡ stripe.old }
+    ensures fails { fail_cause held.old.gated.stripe leg ≡ None
+        → GoesOut held.old.gated.stripe held.new.gated.stripe leg }
+    ensures stays { IsSome (fail_cause held.old.gated.stripe leg)
+        → held.new.gated.stripe ≡ held.old.gated.stripe }
+    ensures others { held.new ≡ with_stripe held.new.gated.stripe held.old }
 {
-    match stripe.fail(leg) {
+    match held.fail_leg(leg) {
         Ok(_) => counts.failed += 1,
         Err(Refusal::Stopped) => counts.stopped += 1,
         Err(Refusal::AlreadyOut) => counts.out += 1,
@@ -41,16 +45,19 @@ pub(crate) fn fail_in<L: LegPart>(stripe: &mut Stripe<L>, leg: u8, counts: &mut 
 }
 
 /// The same in a stripe that may have no such leg, which it tells as out.
-fn fail_if_there<L: LegPart>(stripe: &mut Stripe<L>, leg: u8, counts: &mut FailCounts)
+fn fail_if_there<L: LegPart, J: Naming>(held: &mut Held<L, J>, leg: u8, counts: &mut FailCounts)
     requires room { fails counts.old < 2 ^ 64 - 1 }
-    ensures counts { counts.new ≡ failed_so (fail_answer stripe.old leg) counts.old }
+    ensures counts { counts.new ≡ failed_so (fail_answer held.old.gated.stripe leg) counts.old }
     ensures one { fails counts.new ≡ fails counts.old + 1 }
-    ensures fails { fail_answer stripe.old leg ≡ None → GoesOut stripe.old stripe.new leg }
-    ensures stays { IsSome (fail_answer stripe.old leg) → stripe.new ≡ stripe.old }
+    ensures fails { fail_answer held.old.gated.stripe leg ≡ None
+        → GoesOut held.old.gated.stripe held.new.gated.stripe leg }
+    ensures stays { IsSome (fail_answer held.old.gated.stripe leg)
+        → held.new.gated.stripe ≡ held.old.gated.stripe }
+    ensures others { held.new ≡ with_stripe held.new.gated.stripe held.old }
 {
-    if (leg as usize) < stripe.legs() {
-        fail_in(stripe, leg, counts);
-    } else if stripe.is_stopped() {
+    if (leg as usize) < held.gated.stripe.legs() {
+        fail_in(held, leg, counts);
+    } else if held.gated.stripe.is_stopped() {
         counts.stopped += 1;
     } else {
         counts.out += 1;
@@ -59,59 +66,48 @@ fn fail_if_there<L: LegPart>(stripe: &mut Stripe<L>, leg: u8, counts: &mut FailC
 
 /// Lets the leg join this stripe again, as one that may have lost something. Refused as an attach
 /// is.
-fn return_to<L: LegPart>(gated: &mut GatedStripe<L>, leg: u8) -> Result<u64, Refusal>
-    requires joins { LetsJoin gated.old.durable gated.old.stripe leg }
-    requires leg { leg < length gated.old.stripe.legs }
-    ensures ok { OnOk result (Returns L.model gated.old.stripe gated.new.stripe leg
-        (suspects leg gated.old.durable)) }
-    ensures left { IfOk result (λ blocks. blocks ≡ left leg gated.new.stripe) }
-    ensures cause { IfErr result (λ refusal. attach_cause gated.old.stripe leg ≡ Some refusal) }
-    ensures stays { OnErr result (gated.new.stripe ≡ gated.old.stripe) }
-    ensures durable { gated.new.durable ≡ gated.old.durable }
+fn return_to<L: LegPart, J: Naming>(held: &mut Held<L, J>, leg: u8) -> Result<u64, Refusal>
+    requires joins { LetsJoin held.old.gated.durable held.old.gated.stripe leg }
+    requires leg { leg < length held.old.gated.stripe.legs }
+    ensures ok { OnOk result (Returns L.model held.old.gated.stripe held.new.gated.stripe leg
+        (suspects leg held.old.gated.durable)) }
+    ensures left { IfOk result (λ blocks. blocks ≡ left leg held.new.gated.stripe) }
+    ensures cause { IfErr result (λ refusal.
+        attach_cause held.old.gated.stripe leg ≡ Some refusal) }
+    ensures stays { OnErr result (held.new.gated.stripe ≡ held.old.gated.stripe) }
+    ensures others { held.new ≡ with_stripe held.new.gated.stripe held.old }
 {
-    if gated.stripe.is_stopped() {
+    if held.gated.stripe.is_stopped() {
         return Err(Refusal::Stopped);
     }
-    if gated.stripe.state(leg) != LegState::Out {
+    if held.gated.stripe.state(leg) != LegState::Out {
         return Err(Refusal::NotOut);
     }
-    gated.return_leg(leg)
+    held.return_leg(leg)
 }
 
 /// The same, and counts what came of it.
-fn attach_in<L: LegPart>(gated: &mut GatedStripe<L>, leg: u8, counts: &mut AttachCounts)
-    requires joins { LetsJoin gated.old.durable gated.old.stripe leg }
-    requires leg { leg < length gated.old.stripe.legs }
+fn attach_in<L: LegPart, J: Naming>(held: &mut Held<L, J>, leg: u8, counts: &mut AttachCounts)
+    requires joins { LetsJoin held.old.gated.durable held.old.gated.stripe leg }
+    requires leg { leg < length held.old.gated.stripe.legs }
     requires room { attaches counts.old < 2 ^ 64 - 1 }
-    ensures counts { counts.new ≡ attached_so (attach_cause gated.old.stripe leg)
-        (left leg gated.new.stripe) counts.old }
+    ensures counts { counts.new ≡ attached_so (attach_cause held.old.gated.stripe leg)
+        (left leg held.new.gated.stripe) counts.old }
     ensures one { attaches counts.new ≡ attaches counts.old + 1 }
-    ensures returns { attach_cause gated.old.stripe leg ≡ None
-        → Returns L.model gated.old.stripe gated.new.stripe leg
-        (suspects leg gated.old.durable) }
-    ensures stays { IsSome (attach_cause gated.old.stripe leg)
-        → gated.new.stripe ≡ gated.old.stripe }
-    ensures durable { gated.new.durable ≡ gated.old.durable }
+    ensures returns { attach_cause held.old.gated.stripe leg ≡ None
+        → Returns L.model held.old.gated.stripe held.new.gated.stripe leg
+        (suspects leg held.old.gated.durable) }
+    ensures stays { IsSome (attach_cause held.old.gated.stripe leg)
+        → held.new.gated.stripe ≡ held.old.gated.stripe }
+    ensures others { held.new ≡ with_stripe held.new.gated.stripe held.old }
 {
-    match return_to(gated, leg) {
+    match return_to(held, leg) {
         Ok(left) => {
             counts.joining += 1;
             counts.left = counts.left.saturating_add(left);
         }
         Err(Refusal::Stopped) => counts.stopped += 1,
         Err(_) => counts.not_out += 1,
-    }
-}
-
-impl<L: LegPart> Held<L> {
-    /// The same, which the stripe's gate has to let pass where the leg joins.
-    fn attach(&mut self, leg: u8, counts: &mut AttachCounts)
-        requires joins { LetsJoin self.old.gated.durable self.old.gated.stripe leg }
-        requires leg { leg < length self.old.gated.stripe.legs }
-        requires room { attaches counts.old < 2 ^ 64 - 1 }
-        ensures { attaches counts.new ≡ attaches counts.old + 1 }
-    {
-        attach_in(&mut self.gated, leg, counts);
     }
 }
 
@@ -148,13 +144,17 @@ fn spoils_copies<L: LegPart>(stripe: &Stripe<L>, leg: u8) -> bool
 
 /// Takes the stripe's master out where it is in doubt and not the last in sync, if the leg joins:
 /// nothing is to be copied to it from there.
-fn drop_doubted_master<L: LegPart, D: Doubts>(stripe: &mut Stripe<L>, leg: u8, doubts: &D) {
-    if (leg as usize) >= stripe.legs() || stripe.state(leg) != LegState::Joining {
+fn drop_doubted_master<L: LegPart, J: Naming, D: Doubts>(held: &mut Held<L, J>, leg: u8, doubts: &D)
+    ensures others { held.new ≡ with_stripe held.new.gated.stripe held.old }
+{
+    if (leg as usize) >= held.gated.stripe.legs()
+        || held.gated.stripe.state(leg) != LegState::Joining
+    {
         return;
     }
-    let master = stripe.master();
+    let master = held.gated.stripe.master();
     if doubts.is_doubted(master) {
-        let _ = stripe.fail(master);
+        let _ = held.fail_leg(master);
     }
 }
 
@@ -168,11 +168,11 @@ fn may_join<L: LegPart>(stripe: &Stripe<L>, leg: u8) -> bool
 
 /// Takes the stripe for an attach of the leg. It waits for no superblock where the leg does not
 /// join, since each may go on calling it in sync.
-fn hold_to_attach<'x, L: LegPart, R: Wait>(
-    lock: &'x Lock<L>,
+fn hold_to_attach<'x, L: LegPart, J: Naming, R: Wait>(
+    lock: &'x Lock<L, J>,
     rt: &R,
     leg: u8,
-) -> Option<MutexGuard<'x, Held<L>>>
+) -> Option<MutexGuard<'x, Held<L, J>>>
     ensures joins { IfSome result (λ guard. LetsJoin (mutex_guard_value guard).gated.durable
         (mutex_guard_value guard).gated.stripe leg) }
     ensures number { IfSome result (λ guard.
@@ -186,7 +186,7 @@ fn hold_to_attach<'x, L: LegPart, R: Wait>(
     lock.hold_for(rt, Ask::Attach(leg))
 }
 
-impl<L: LegPart, G: Gate + Drop> Mirror<L, G> {
+impl<L: LegPart, G: Gate + Drop, J: Naming> Mirror<L, G, J> {
     /// Takes the leg out of every stripe, and counts what came of it. It waits for no superblock,
     /// but wants the loss to be saved.
     pub fn fail_leg<R: Wait>(&self, rt: &R, leg: u8) -> FailCounts
@@ -216,7 +216,7 @@ impl<L: LegPart, G: Gate + Drop> Mirror<L, G> {
         ensures counts { FailsIn L leg stripe counts.old counts.new }
     {
         let mut held = self.hold(rt, stripe);
-        fail_if_there(&mut held.gated.stripe, leg, counts);
+        fail_if_there(&mut held, leg, counts);
     }
 
     /// Takes the leg out of each stripe in which it joins, or from which others are copied that
@@ -225,9 +225,9 @@ impl<L: LegPart, G: Gate + Drop> Mirror<L, G> {
     pub fn spare_copies<R: Wait>(&self, rt: &R, leg: u8) {
         for lock in &self.locks {
             let mut held = lock.hold(rt);
-            let stripe = &mut held.gated.stripe;
-            if (leg as usize) < stripe.legs() && spoils_copies(stripe, leg) {
-                let _ = stripe.fail(leg);
+            let there = (leg as usize) < held.gated.stripe.legs();
+            if there && spoils_copies(&held.gated.stripe, leg) {
+                let _ = held.fail_leg(leg);
             }
         }
         self.want_save(rt);
@@ -259,8 +259,8 @@ impl<L: LegPart, G: Gate + Drop> Mirror<L, G> {
             match hold_to_attach(self.lock_of(stripe), rt, leg) {
                 Some(mut held) => {
                     if (leg as usize) < held.gated.stripe.legs() {
-                        held.attach(leg, &mut counts);
-                        drop_doubted_master(&mut held.gated.stripe, leg, doubts);
+                        attach_in(&mut held, leg, &mut counts);
+                        drop_doubted_master(&mut held, leg, doubts);
                     } else {
                         count_unchanged(&held.gated.stripe, &mut counts);
                     }

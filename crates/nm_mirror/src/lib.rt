@@ -17,6 +17,7 @@ pub use lock::Lock;
 pub use marked_opening::{StripeStart, open_marked_stripes};
 pub use mirror::Mirror;
 pub use mirror_fault::MirrorFault;
+pub use nm_book::Naming;
 pub use nm_geometry::Shape;
 pub use nm_lanes::{
     CallError, CallErrorKind, CallKind, Gate, Lane, NoGate, Place, StepKind, WriteFault, flush_by,
@@ -57,6 +58,7 @@ mod marked_opening;
 mod mirror;
 mod mirror_fault;
 mod opening;
+mod own_steps;
 mod part_lane;
 mod pass;
 mod refused;

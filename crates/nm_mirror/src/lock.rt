@@ -7,6 +7,7 @@ use crate::door::Door;
 use crate::held::Held;
 use crate::save_desk::SaveDesk;
 use crate::stripe_end::StripeEnd;
+use nm_book::Naming;
 use nm_gate::{GateRefusal, GatedStripe};
 use nm_leg::LegPart;
 use std::hint::spin_loop;
@@ -35,9 +36,9 @@ type Line = [u64; 8];
 /// two locks, since threads at work on two stripes would else take it from one another.
 #[derive(Drop)]
 #[repr(C)]
-pub struct Lock<L: LegPart> {
+pub struct Lock<L: LegPart, J: Naming> {
     before: Line,
-    held: Mutex<Held<L>>,
+    held: Mutex<Held<L, J>>,
     pub(crate) number: u32,
     unsynced: AtomicBool,
     // None where nothing was written since the last sync began, else one more than the turns since.
@@ -49,7 +50,7 @@ pub struct Lock<L: LegPart> {
     after: Line,
 }
 
-impl<L: LegPart> Lock<L> {
+impl<L: LegPart, J: Naming> Lock<L, J> {
     /// This stripe behind a lock, which has its number. Nothing was written yet, and a sync is due:
     /// what the legs hold may have come before their opening.
     pub(crate) fn new(gated: GatedStripe<L>, desk: Option<Arc<SaveDesk>>) -> Self
@@ -75,7 +76,7 @@ impl<L: LegPart> Lock<L> {
     /// To be put to sleep and woken takes longer than many steps, so a thread tries for a while
     /// before it sleeps.
     #[inline(always)]
-    pub(crate) fn hold<R: Wait>(&self, rt: &R) -> MutexGuard<'_, Held<L>>
+    pub(crate) fn hold<R: Wait>(&self, rt: &R) -> MutexGuard<'_, Held<L, J>>
         ensures { (mutex_guard_value result).gated.stripe.place.stripe ≡ self.now.number }
     {
         match self.try_hold() {
@@ -87,7 +88,7 @@ impl<L: LegPart> Lock<L> {
     /// Waits for the stripe, as `hold`, for a write to a leg: where the door is shut, until it has
     /// been opened.
     #[inline(always)]
-    pub(crate) fn hold_to_write<R: Wait>(&self, rt: &R) -> MutexGuard<'_, Held<L>>
+    pub(crate) fn hold_to_write<R: Wait>(&self, rt: &R) -> MutexGuard<'_, Held<L, J>>
         ensures { (mutex_guard_value result).gated.stripe.place.stripe ≡ self.now.number }
     {
         let held = self.hold(rt);
@@ -112,7 +113,7 @@ impl<L: LegPart> Lock<L> {
 
     // Waits for the stripe, which another thread has. A try takes the lock's cache line from the
     // one that works on the stripe, so there are few.
-    fn hold_taken<R: Wait>(&self, rt: &R) -> MutexGuard<'_, Held<L>>
+    fn hold_taken<R: Wait>(&self, rt: &R) -> MutexGuard<'_, Held<L, J>>
         ensures { (mutex_guard_value result).gated.stripe.place.stripe ≡ self.now.number }
     {
         for _ in 0..TRIES {
@@ -128,7 +129,7 @@ impl<L: LegPart> Lock<L> {
 
     // Sleeps until the stripe is to be had. What is behind the lock has its number from the first
     // try on: no contract can say so, so it is looked at.
-    fn sleep_for<R: Wait>(&self, rt: &R) -> MutexGuard<'_, Held<L>>
+    fn sleep_for<R: Wait>(&self, rt: &R) -> MutexGuard<'_, Held<L, J>>
         ensures { (mutex_guard_value result).gated.stripe.place.stripe ≡ self.now.number }
     {
         for _ in rt.forever() {
@@ -143,7 +144,7 @@ impl<L: LegPart> Lock<L> {
 
     /// Takes the stripe, unless somebody has it or waits for it right now.
     #[inline(always)]
-    pub(crate) fn try_hold(&self) -> Option<MutexGuard<'_, Held<L>>>
+    pub(crate) fn try_hold(&self) -> Option<MutexGuard<'_, Held<L, J>>>
         ensures { IfSome result (λ guard.
             (mutex_guard_value guard).gated.stripe.place.stripe ≡ self.now.number) }
     {
@@ -162,7 +163,7 @@ impl<L: LegPart> Lock<L> {
     /// Waits for the stripe until its gate lets this pass, and takes it until the guard is dropped.
     /// Meanwhile it asks for saves. None where none can be done.
     #[inline(always)]
-    pub(crate) fn hold_for<R: Wait>(&self, rt: &R, ask: Ask) -> Option<MutexGuard<'_, Held<L>>>
+    pub(crate) fn hold_for<R: Wait>(&self, rt: &R, ask: Ask) -> Option<MutexGuard<'_, Held<L, J>>>
         ensures passes { IfSome result (λ guard. LetsPass (mutex_guard_value guard).gated.durable
             (mutex_guard_value guard).gated.stripe ask) }
         ensures number { IfSome result (λ guard.
@@ -178,7 +179,7 @@ impl<L: LegPart> Lock<L> {
 
     // Asks for a save where the gate refuses this, and tries again once one is done.
     #[cold]
-    fn hold_once_saved<R: Wait>(&self, rt: &R, ask: Ask) -> Option<MutexGuard<'_, Held<L>>>
+    fn hold_once_saved<R: Wait>(&self, rt: &R, ask: Ask) -> Option<MutexGuard<'_, Held<L, J>>>
         ensures passes { IfSome result (λ guard. LetsPass (mutex_guard_value guard).gated.durable
             (mutex_guard_value guard).gated.stripe ask) }
         ensures number { IfSome result (λ guard.

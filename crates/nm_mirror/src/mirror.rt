@@ -7,6 +7,7 @@ ghost use Rattle.nm_mirror.specs.Stripes.{AreStripesOf};
 use crate::held::Held;
 use crate::lock::Lock;
 use crate::save_desk::SaveDesk;
+use nm_book::Naming;
 use nm_gate::GatedStripe;
 use nm_geometry::Shape;
 use nm_lanes::{CallKind, Gate, Place, StepKind};
@@ -21,9 +22,9 @@ use std::sync::{Arc, Mutex, MutexGuard, Wait};
 /// out writes; where saves are asked for, if it has superblocks; and which legs are paused, a bit
 /// each. The lock of that count is taken by `pass` alone.
 #[derive(Drop)]
-pub struct Mirror<L: LegPart, G: Gate + Drop> {
+pub struct Mirror<L: LegPart, G: Gate + Drop, J: Naming> {
     pub(crate) shape: Shape,
-    pub(crate) locks: Vec<Lock<L>>,
+    pub(crate) locks: Vec<Lock<L, J>>,
     pub(crate) gate: G,
     pub(crate) made: Mutex<u32>,
     pub(crate) shutting: Mutex<()>,
@@ -70,11 +71,11 @@ fn shares_of(
 }
 
 /// Each stripe behind a lock of its own, in order. Where memory is refused the stripes come back.
-fn lock_each<L: LegPart>(
+fn lock_each<L: LegPart, J: Naming>(
     alloc: Global,
     stripes: Vec<GatedStripe<L>>,
     desk: &Option<Arc<SaveDesk>>,
-) -> Result<Vec<Lock<L>>, Vec<GatedStripe<L>>>
+) -> Result<Vec<Lock<L, J>>, Vec<GatedStripe<L>>>
     ensures each { IfOk result (λ locks. length locks.items ≡ length stripes.items) }
     ensures numbers { IfOk result (λ locks. map (λ lock. lock.number) locks.items
         ≡ map (λ gated. gated.stripe.place.stripe) stripes.items) }
@@ -101,7 +102,7 @@ fn bit_of(leg: u8) -> u32 {
     1u32 << u32::from(leg.min(31))
 }
 
-impl<L: LegPart, G: Gate + Drop> Mirror<L, G> {
+impl<L: LegPart, G: Gate + Drop, J: Naming> Mirror<L, G, J> {
     /// A mirror of these stripes, of which each has what a superblock may say of it, or none has.
     /// Where memory is refused the stripes and the gate come back.
     pub fn new(
@@ -109,7 +110,7 @@ impl<L: LegPart, G: Gate + Drop> Mirror<L, G> {
         shape: Shape,
         stripes: Vec<GatedStripe<L>>,
         gate: G,
-    ) -> Result<Mirror<L, G>, (Memory, Vec<GatedStripe<L>>, G)>
+    ) -> Result<Mirror<L, G, J>, (Memory, Vec<GatedStripe<L>>, G)>
         requires { AreStripesOf shape (map (λ gated. gated.stripe) stripes.items) }
         ensures made { IfOk result (λ mirror. (mirror.shape ≡ shape) × (mirror.gate ≡ gate)) }
         ensures handed_back { IfErr result (λ back.
@@ -134,7 +135,7 @@ impl<L: LegPart, G: Gate + Drop> Mirror<L, G> {
     }
 
     /// The locks, by rising number of their stripes. No lock stands round them.
-    pub fn locks(&self) -> &[Lock<L>]
+    pub fn locks(&self) -> &[Lock<L, J>]
         ensures all { length result.now ≡ self.now.shape.stripes }
         ensures numbers { AreInOrder (map (λ lock. lock.number) result.now) }
     {
@@ -142,7 +143,7 @@ impl<L: LegPart, G: Gate + Drop> Mirror<L, G> {
     }
 
     /// The lock of the stripe of this number.
-    pub(crate) fn lock_of(&self, stripe: u32) -> &Lock<L>
+    pub(crate) fn lock_of(&self, stripe: u32) -> &Lock<L, J>
         requires { stripe < self.now.shape.stripes }
         ensures { result.now.number ≡ stripe }
     {
@@ -150,7 +151,7 @@ impl<L: LegPart, G: Gate + Drop> Mirror<L, G> {
     }
 
     /// Waits for the stripe of this number, and takes it until the guard is dropped.
-    pub(crate) fn hold<R: Wait>(&self, rt: &R, stripe: u32) -> MutexGuard<'_, Held<L>>
+    pub(crate) fn hold<R: Wait>(&self, rt: &R, stripe: u32) -> MutexGuard<'_, Held<L, J>>
         requires { stripe < self.now.shape.stripes }
         ensures { (mutex_guard_value result).gated.stripe.place.stripe ≡ stripe }
     {

@@ -13,12 +13,13 @@ use crate::ask::Ask;
 use crate::held::Held;
 use crate::lock::Lock;
 use crate::sight::Sight;
+use nm_book::Naming;
 use nm_fanout::Data;
 use nm_lanes::Lane;
 use nm_leg::LegPart;
 use nm_part::Part;
 use nm_stripe::{Beginning, Copying, Reach, Reading, Refusal, Syncing, Written};
-use std::marker::Model;
+use std::marker::{Model, PhantomData};
 use std::sync::Wait;
 
 /// The part of a pass in one stripe, as a lane over the stripe's lock.
@@ -29,15 +30,16 @@ use std::sync::Wait;
 /// of the stripe in which it began: then its claim is refused as `NoTicket`, since another may have
 /// its ticket.
 #[derive(Drop)]
-pub struct PartLane<L> {
+pub struct PartLane<L, J: Naming> {
     part: Part<L>,
     // The opening of the stripe in which the last write began.
     opening: u64,
     // The look since which no other write may have begun where one begins, if there is such a look.
     since: Option<Sight>,
+    of: PhantomData<J>,
 }
 
-impl<L> Model for PartLane<L> {
+impl<L, J: Naming> Model for PartLane<L, J> {
     ghost use Rattle.nm_part.specs.PartState.{PartState};
 
     ghost Value = { PartState };
@@ -45,7 +47,7 @@ impl<L> Model for PartLane<L> {
     ghost view = { λ lane. lane.part };
 }
 
-impl<L> PartLane<L> {
+impl<L, J: Naming> PartLane<L, J> {
     /// How many entries the part was given.
     pub fn count(&self) -> u64
         ensures { result ≡ self.now.count }
@@ -61,20 +63,21 @@ impl<L> PartLane<L> {
     }
 }
 
-impl<L: LegPart> PartLane<L> {
+impl<L: LegPart, J: Naming> PartLane<L, J> {
     /// The part of a pass that is made now.
-    pub(crate) fn of(held: &Held<L>) -> Self
+    pub(crate) fn of(held: &Held<L, J>) -> Self
         ensures { result ≡ part_of held.now.gated.stripe }
     {
         PartLane {
             part: Part::of(&held.gated.stripe),
             opening: held.openings,
             since: None,
+            of: PhantomData,
         }
     }
 
     // Whether a write may not begin any more, since another one began after the look.
-    fn is_late(&self, held: &Held<L>) -> bool {
+    fn is_late(&self, held: &Held<L, J>) -> bool {
         match self.since {
             Some(sight) => sight.is_past(held),
             None => false,
@@ -82,7 +85,7 @@ impl<L: LegPart> PartLane<L> {
     }
 }
 
-impl<L: LegPart> Lane<L, Lock<L>> for PartLane<L> {
+impl<L: LegPart, J: Naming> Lane<L, Lock<L, J>> for PartLane<L, J> {
     ghost use Rattle.std.specs.Prelude.{◌≡◌, refl};
     ghost use Rattle.nm_leg.specs.Leg.{leg_type};
     ghost use Rattle.nm_mirror.specs.Counting.{Follows, part-joined};
@@ -93,7 +96,7 @@ impl<L: LegPart> Lane<L, Lock<L>> for PartLane<L> {
     fn begin<R: Wait>(
         &mut self,
         rt: &R,
-        lock: &Lock<L>,
+        lock: &Lock<L, J>,
         block: u64,
         data: Data,
     ) -> Result<Beginning, (Refusal, Data)>
@@ -115,7 +118,7 @@ impl<L: LegPart> Lane<L, Lock<L>> for PartLane<L> {
     fn push<R: Wait>(
         &mut self,
         rt: &R,
-        lock: &Lock<L>,
+        lock: &Lock<L, J>,
         ticket: u64,
         leg: u8,
     ) -> Result<Reach, Refusal>
@@ -128,7 +131,12 @@ impl<L: LegPart> Lane<L, Lock<L>> for PartLane<L> {
     }
 
     #[inline(always)]
-    fn claim<R: Wait>(&mut self, rt: &R, lock: &Lock<L>, ticket: u64) -> Result<Written<L>, Refusal>
+    fn claim<R: Wait>(
+        &mut self,
+        rt: &R,
+        lock: &Lock<L, J>,
+        ticket: u64,
+    ) -> Result<Written<L>, Refusal>
         ensures follows { Follows (leg_type L.model L.honest) self.old
             (done_as (step.Claim ticket) (answer_of_claim result) ∷ []) self.new }
     {
@@ -146,7 +154,7 @@ impl<L: LegPart> Lane<L, Lock<L>> for PartLane<L> {
     fn read<R: Wait>(
         &mut self,
         rt: &R,
-        lock: &Lock<L>,
+        lock: &Lock<L, J>,
         block: u64,
         into: &mut [u8],
     ) -> Result<Reading<L>, Refusal>
@@ -157,7 +165,7 @@ impl<L: LegPart> Lane<L, Lock<L>> for PartLane<L> {
         lock.hold(rt).read(&mut self.part, block, into)
     }
 
-    fn flush<R: Wait>(&mut self, rt: &R, lock: &Lock<L>, leg: u8) -> Result<Syncing, Refusal>
+    fn flush<R: Wait>(&mut self, rt: &R, lock: &Lock<L, J>, leg: u8) -> Result<Syncing, Refusal>
         ensures follows { Follows (leg_type L.model L.honest) self.old
             (done_as (step.Flush leg) (answer_of_sync result) ∷ []) self.new }
     {
@@ -171,7 +179,7 @@ impl<L: LegPart> Lane<L, Lock<L>> for PartLane<L> {
     fn copy<R: Wait>(
         &mut self,
         rt: &R,
-        lock: &Lock<L>,
+        lock: &Lock<L, J>,
         leg: u8,
         most: u64,
         from: u64,
@@ -186,7 +194,7 @@ impl<L: LegPart> Lane<L, Lock<L>> for PartLane<L> {
         held.copy(&mut self.part, leg, most, from)
     }
 
-    fn owed<R: Wait>(&self, rt: &R, lock: &Lock<L>, ticket: Option<u64>) -> Option<(u64, u8)> {
+    fn owed<R: Wait>(&self, rt: &R, lock: &Lock<L, J>, ticket: Option<u64>) -> Option<(u64, u8)> {
         let held = lock.hold(rt);
         match ticket {
             Some(ticket) => Some((ticket, held.gated.stripe.next_owed(ticket)?)),

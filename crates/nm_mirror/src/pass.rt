@@ -8,6 +8,7 @@ use crate::mirror::Mirror;
 use crate::part_lane::PartLane;
 use crate::refused::Refused;
 use crate::sight::Sight;
+use nm_book::Naming;
 use nm_lanes::Gate;
 use nm_leg::LegPart;
 use std::alloc::Global;
@@ -19,12 +20,12 @@ pub const MOST_PASSES: u32 = 1024;
 /// One client's way through a mirror: a part for each stripe, which counts the entries that the
 /// client's steps were given.
 #[derive(Drop)]
-pub struct Pass<L> {
+pub struct Pass<L, J: Naming> {
     pub(crate) number: u32,
-    pub(crate) parts: Vec<PartLane<L>>,
+    pub(crate) parts: Vec<PartLane<L, J>>,
 }
 
-impl<L> Pass<L> {
+impl<L, J: Naming> Pass<L, J> {
     /// How many stripes the pass goes through: one part each.
     pub fn stripes(&self) -> usize
         ensures { result ≡ length self.now.parts.items }
@@ -46,7 +47,11 @@ impl<L> Pass<L> {
 /// Counts one pass more than were made, which has room for so many parts.
 ///
 /// Refused as `TooMany` where 1,024 were made, or as `Memory`: then it is not counted.
-fn begin_pass<L>(alloc: Global, made: &mut u32, stripes: usize) -> Result<Pass<L>, Refused<L>>
+fn begin_pass<L, J: Naming>(
+    alloc: Global,
+    made: &mut u32,
+    stripes: usize,
+) -> Result<Pass<L, J>, Refused<L>>
     ensures number { IfOk result (λ pass. pass.number ≡ made.old) }
     ensures counted { OnOk result (made.new ≡ made.old + 1) }
     ensures none { IfOk result (λ pass. pass.parts.items ≡ []) }
@@ -66,12 +71,12 @@ fn begin_pass<L>(alloc: Global, made: &mut u32, stripes: usize) -> Result<Pass<L
     Ok(Pass { number, parts })
 }
 
-impl<L: LegPart, G: Gate + Drop> Mirror<L, G> {
+impl<L: LegPart, G: Gate + Drop, J: Naming> Mirror<L, G, J> {
     /// A new pass, which has a part for each stripe, in order, and has counted nothing.
     ///
     /// Refused as `TooMany` where 1,024 passes were made, or as `Memory`, the first whose condition
     /// holds. Then no pass is counted.
-    pub fn pass<R: Wait>(&self, rt: &R, alloc: Global) -> Result<Pass<L>, Refused<L>>
+    pub fn pass<R: Wait>(&self, rt: &R, alloc: Global) -> Result<Pass<L, J>, Refused<L>>
         ensures stripes { IfOk result (λ pass.
             length pass.parts.items ≡ length self.now.locks.items) }
         ensures numbers { IfOk result (λ pass.

@@ -7,6 +7,7 @@ use crate::ask::Ask;
 use crate::bounds::within_bounds;
 use crate::mirror::Mirror;
 use crate::opening::{have_all, place_of};
+use nm_book::Naming;
 use nm_lanes::Gate;
 use nm_leg::LegPart;
 use nm_stripe::{Policy, Stripe};
@@ -35,7 +36,7 @@ fn left_in<L: LegPart>(stripe: &Stripe<L>) -> u64
     blocks
 }
 
-impl<L: LegPart, G: Gate + Drop> Mirror<L, G> {
+impl<L: LegPart, G: Gate + Drop, J: Naming> Mirror<L, G, J> {
     /// Whether the stripe has stopped.
     pub fn has_stopped<R: Wait>(&self, rt: &R, stripe: u32) -> bool
         requires { stripe < self.now.shape.stripes }
@@ -59,7 +60,7 @@ impl<L: LegPart, G: Gate + Drop> Mirror<L, G> {
         policy: Policy,
     ) -> Reopened
         requires { stripe < self.now.shape.stripes }
-        ensures { EndsReopening (place_of stripe self.now.shape) legs.items policy result }
+        ensures { EndsReopening J (place_of stripe self.now.shape) legs.items policy result }
     {
         within_bounds(&self.shape);
         if !self.has_stopped(rt, stripe) {

@@ -14,11 +14,12 @@ use crate::mirror::Mirror;
 use crate::pass::Pass;
 use crate::sight::Sight;
 use bytes::Bytes;
+use nm_book::Naming;
 use nm_geometry::{ByteRange, Shape};
 use nm_lanes::{Gate, WriteFault};
 use nm_leg::LegPart;
 use nm_replay::BLOCK_BYTES;
-use nm_verify::{Cursor, MOST_BYTES, look_without};
+use nm_verify::{Cursor, MOST_BYTES};
 use std::alloc::Global;
 use std::sync::Wait;
 
@@ -46,7 +47,7 @@ fn offset_of(shape: &Shape, at: Cursor, len: u64) -> Option<u64>
     }
 }
 
-impl<L: LegPart, G: Gate + Drop> Mirror<L, G> {
+impl<L: LegPart, G: Gate + Drop, J: Naming> Mirror<L, G, J> {
     /// Looks at what all legs in sync but this one hold of the run there, in one hold of the
     /// stripe, and leaves it in `held`: when that was, and how many blocks the run has. None where
     /// this leg is not in sync there or no other is, where two others differ or one cannot be read,
@@ -69,7 +70,7 @@ impl<L: LegPart, G: Gate + Drop> Mirror<L, G> {
     {
         let mut lent = self.hold(rt, at.stripe);
         let opening = lent.openings;
-        let agreed = look_without(&mut lent.gated.stripe, at, leg, held, found)?;
+        let agreed = lent.look_without(at, leg, held, found)?;
         let tickets = agreed.tickets;
         Some((Sight { opening, tickets }, agreed.count))
     }
@@ -81,7 +82,7 @@ impl<L: LegPart, G: Gate + Drop> Mirror<L, G> {
         &self,
         rt: &R,
         alloc: Global,
-        pass: &mut Pass<L>,
+        pass: &mut Pass<L, J>,
         look: (u32, Sight),
         offset: u64,
         payload: Bytes,
@@ -121,7 +122,7 @@ impl<L: LegPart, G: Gate + Drop> Mirror<L, G> {
         &self,
         rt: &R,
         alloc: Global,
-        pass: &mut Pass<L>,
+        pass: &mut Pass<L, J>,
         at: Cursor,
         leg: u8,
         room: &mut [u8],

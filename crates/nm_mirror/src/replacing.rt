@@ -7,14 +7,15 @@ ghost use Rattle.nm_rules.specs.Attach.{Replaces, attach_cause};
 ghost use Rattle.nm_rules.specs.State.{left, leg_state};
 ghost use Rattle.nm_mirror.specs.Asks.{LetsPass};
 ghost use Rattle.nm_mirror.specs.Counts.{replaced_so, replaces};
+ghost use Rattle.nm_mirror.specs.Holding.{with_stripe};
 ghost use Rattle.nm_mirror.specs.Replacing.{EndsWithdrawal, IsOnlyOne, IsWithdrawn};
 ghost use Rattle.nm_mirror.specs.declared.ask.Ask.TheVariants as ask;
 
 use crate::ask::Ask;
 use crate::counts::ReplaceCounts;
 use crate::held::Held;
-use crate::legs::fail_in;
 use crate::mirror::Mirror;
+use nm_book::Naming;
 use nm_lanes::{CallKind, Gate, StepKind};
 use nm_leg::LegPart;
 use nm_stripe::{LegState, Refusal, Stripe};
@@ -69,19 +70,29 @@ fn is_gone<L: LegPart>(stripe: &Stripe<L>, leg: u8) -> bool
     (leg as usize) >= stripe.legs() || stripe.state(leg) == LegState::Out
 }
 
-/// Puts the new leg in the place of this one in this stripe, and counts what came of it.
-fn replace_in<L: LegPart>(stripe: &mut Stripe<L>, leg: u8, part: L, counts: &mut ReplaceCounts)
-    requires leg { leg < length stripe.old.legs }
-    requires length { length (L.model part).contents ≡ stripe.old.place.blocks }
+/// Puts the new leg in the place of this one in this stripe, whose gate has to let that pass where
+/// the leg is out, and counts what came of it.
+fn replace_in<L: LegPart, J: Naming>(
+    held: &mut Held<L, J>,
+    leg: u8,
+    part: L,
+    counts: &mut ReplaceCounts,
+)
+    requires passes { LetsPass held.old.gated.durable held.old.gated.stripe (ask.Replace leg) }
+    requires leg { leg < length held.old.gated.stripe.legs }
+    requires length { length (L.model part).contents ≡ held.old.gated.stripe.place.blocks }
     requires room { replaces counts.old < 2 ^ 64 - 1 }
     ensures counts { counts.new
-        ≡ replaced_so (attach_cause stripe.old leg) (left leg stripe.new) counts.old }
+        ≡ replaced_so (attach_cause held.old.gated.stripe leg)
+        (left leg held.new.gated.stripe) counts.old }
     ensures one { replaces counts.new ≡ replaces counts.old + 1 }
-    ensures replaces { attach_cause stripe.old leg ≡ None
-        → Replaces stripe.old stripe.new leg part }
-    ensures stays { IsSome (attach_cause stripe.old leg) → stripe.new ≡ stripe.old }
+    ensures replaces { attach_cause held.old.gated.stripe leg ≡ None
+        → Replaces held.old.gated.stripe held.new.gated.stripe leg part }
+    ensures stays { IsSome (attach_cause held.old.gated.stripe leg)
+        → held.new.gated.stripe ≡ held.old.gated.stripe }
+    ensures others { held.new ≡ with_stripe held.new.gated.stripe held.old }
 {
-    match stripe.replace(leg, part) {
+    match held.replace_leg(leg, part) {
         Ok(left) => {
             counts.joining += 1;
             counts.left = counts.left.saturating_add(left);
@@ -91,20 +102,7 @@ fn replace_in<L: LegPart>(stripe: &mut Stripe<L>, leg: u8, part: L, counts: &mut
     }
 }
 
-impl<L: LegPart> Held<L> {
-    /// The same, which the stripe's gate has to let pass where the leg is out.
-    fn replace(&mut self, leg: u8, part: L, counts: &mut ReplaceCounts)
-        requires passes { LetsPass self.old.gated.durable self.old.gated.stripe (ask.Replace leg) }
-        requires leg { leg < length self.old.gated.stripe.legs }
-        requires length { length (L.model part).contents ≡ self.old.gated.stripe.place.blocks }
-        requires room { replaces counts.old < 2 ^ 64 - 1 }
-        ensures { replaces counts.new ≡ replaces counts.old + 1 }
-    {
-        replace_in(&mut self.gated.stripe, leg, part, counts);
-    }
-}
-
-impl<L: LegPart, G: Gate + Drop> Mirror<L, G> {
+impl<L: LegPart, G: Gate + Drop, J: Naming> Mirror<L, G, J> {
     /// Why the leg cannot be taken out to be replaced, as the stripes are looked at one after the
     /// other.
     fn hindrance_to_withdraw<R: Wait>(&self, rt: &R, leg: u8) -> Option<Withdrawal>
@@ -245,7 +243,7 @@ impl<L: LegPart, G: Gate + Drop> Mirror<L, G> {
         let fits = (leg as usize) < held.gated.stripe.legs()
             && part.len() == held.gated.stripe.blocks();
         if fits {
-            held.replace(leg, part, counts);
+            replace_in(&mut held, leg, part, counts);
         } else {
             counts.out += 1;
         }

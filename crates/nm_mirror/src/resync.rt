@@ -2,6 +2,7 @@
 ghost use Rattle.std.specs.Prelude.{◌≡◌, ◌*◌, ◌-◌, ◌^◌, ◌<◌, ◌≤◌, ◌||◌, length, is_some, not};
 ghost use Rattle.nm_stripe.specs.Copy.{region_to_copy};
 ghost use Rattle.nm_leg.specs.Leg.{leg_type};
+ghost use Rattle.nm_mirror.specs.Holding.{with_stripe};
 ghost use Rattle.nm_mirror.specs.RoundChanges.{GoesOnTo, visited};
 ghost use Rattle.nm_mirror.specs.Resync.{BringsUp, CopiesTo, Helps, Pushes};
 ghost use Rattle.nm_mirror.specs.Resync.{step_of, step_of_help, visit_of};
@@ -10,9 +11,11 @@ ghost use Rattle.nm_mirror.specs.declared.copy_round.Visit.{Visit};
 use crate::bounds::within_bounds;
 use crate::copy_round::{CopyRound, LegRound, Visit};
 use crate::doubts::Doubts;
+use crate::held::Held;
 use crate::mirror::Mirror;
+use nm_book::Naming;
 use nm_fanout::MOST_RUN;
-use nm_gate::{GateRefusal, GatedStripe};
+use nm_gate::GateRefusal;
 use nm_lanes::{CallKind, Gate, StepKind};
 use nm_leg::LegPart;
 use nm_stripe::{Copying, LegState, Promotion, Reach, Refusal, Stripe};
@@ -111,82 +114,91 @@ fn place_paused<L: LegPart>(stripe: &Stripe<L>, leg: u8, place: LegRound) -> Leg
 
 /// Calls a joining leg in sync where nothing is left to copy to it, and else copies to it, unless
 /// its round is over, or the gate refuses the step.
-fn bring_up<L: LegPart>(gated: &mut GatedStripe<L>, leg: u8, place: LegRound) -> Tried
-    requires { leg < length gated.old.stripe.legs }
-    ensures step { BringsUp (leg_type L.model L.honest) leg place gated.old gated.new result }
-    ensures durable { gated.new.durable ≡ gated.old.durable }
+fn bring_up<L: LegPart, J: Naming>(held: &mut Held<L, J>, leg: u8, place: LegRound) -> Tried
+    requires { leg < length held.old.gated.stripe.legs }
+    ensures step { BringsUp (leg_type L.model L.honest) leg place held.old.gated
+        held.new.gated result }
+    ensures others { held.new ≡ with_stripe held.new.gated.stripe held.old }
 {
-    if gated.stripe.state(leg) != LegState::Joining {
+    if held.gated.stripe.state(leg) != LegState::Joining {
         return Tried::Rests;
     }
-    if gated.stripe.left(leg) == 0 {
-        if let Some(why) = gated.may_promote(leg) {
+    if held.gated.stripe.left(leg) == 0 {
+        if let Some(why) = held.gated.may_promote(leg) {
             return Tried::Refused(StepKind::Promote, why);
         }
-        return Tried::Promoted(gated.stripe.promote(leg));
+        return Tried::Promoted(held.promote_leg(leg));
     }
     if place.is_over {
         return Tried::Waits;
     }
-    if let Some(why) = gated.may_copy(leg, place.from) {
+    if let Some(why) = held.gated.may_copy(leg, place.from) {
         return Tried::Refused(StepKind::Copy, why);
     }
-    let region = gated.stripe.region_to_copy(leg, place.from);
-    Tried::Copied(region, gated.stripe.copy(leg, MOST_RUN as u64, place.from))
+    let region = held.gated.stripe.region_to_copy(leg, place.from);
+    Tried::Copied(region, held.copy_leg(leg, MOST_RUN as u64, place.from))
 }
 
 /// Takes a leg out that was called in sync, where it is in doubt: its sync tells nothing of what it
 /// was written before. Nobody has seen it in sync, as long as the stripe is held.
-fn drop_doubted<L: LegPart, D: Doubts>(stripe: &mut Stripe<L>, leg: u8, tried: Tried, doubts: &D)
-    requires { leg < length stripe.old.legs }
+fn drop_doubted<L: LegPart, J: Naming, D: Doubts>(
+    held: &mut Held<L, J>,
+    leg: u8,
+    tried: Tried,
+    doubts: &D,
+)
+    requires { leg < length held.old.gated.stripe.legs }
+    ensures others { held.new ≡ with_stripe held.new.gated.stripe held.old }
 {
     if matches!(tried, Tried::Promoted(Ok(Promotion::InSync))) && doubts.is_doubted(leg) {
-        let _ = stripe.fail(leg);
+        let _ = held.fail_leg(leg);
     }
 }
 
 /// Pushes the write of this ticket to the leg, if there is such a leg.
-fn push_to<L: LegPart>(stripe: &mut Stripe<L>, owed: Option<(u64, u8)>) -> Helped
-    ensures { Pushes (leg_type L.model L.honest) owed stripe.old stripe.new result }
+fn push_to<L: LegPart, J: Naming>(held: &mut Held<L, J>, owed: Option<(u64, u8)>) -> Helped
+    ensures step { Pushes (leg_type L.model L.honest) owed held.old.gated.stripe
+        held.new.gated.stripe result }
+    ensures others { held.new ≡ with_stripe held.new.gated.stripe held.old }
 {
     match owed {
-        Some((ticket, leg)) if (leg as usize) < stripe.legs() => {
-            Helped::Pushed(ticket, leg, stripe.push(ticket, leg))
+        Some((ticket, leg)) if (leg as usize) < held.gated.stripe.legs() => {
+            Helped::Pushed(ticket, leg, held.push_owed(ticket, leg))
         }
         _ => Helped::Nothing,
     }
 }
 
 /// Copies to the leg in the region that is open, if there is one and the gate lets it pass.
-fn copy_to<L: LegPart>(gated: &mut GatedStripe<L>, leg: u8) -> Helped
-    ensures step { CopiesTo (leg_type L.model L.honest) leg gated.old gated.new result }
-    ensures durable { gated.new.durable ≡ gated.old.durable }
+fn copy_to<L: LegPart, J: Naming>(held: &mut Held<L, J>, leg: u8) -> Helped
+    ensures step { CopiesTo (leg_type L.model L.honest) leg held.old.gated held.new.gated result }
+    ensures others { held.new ≡ with_stripe held.new.gated.stripe held.old }
 {
-    if (leg as usize) >= gated.stripe.legs()
-        || !is_open(&gated.stripe, leg)
-        || gated.may_copy(leg, 0).is_some()
+    if (leg as usize) >= held.gated.stripe.legs()
+        || !is_open(&held.gated.stripe, leg)
+        || held.gated.may_copy(leg, 0).is_some()
     {
         return Helped::Nothing;
     }
-    Helped::Copied(leg, gated.stripe.copy(leg, MOST_RUN as u64, 0))
+    Helped::Copied(leg, held.copy_leg(leg, MOST_RUN as u64, 0))
 }
 
 /// Does a step for what stood in the way of a copy: the write that is under way there or, while a
 /// failover is not over, the lowest one, is pushed, and another leg is copied to.
-fn help<L: LegPart>(gated: &mut GatedStripe<L>, refusal: Refusal) -> Helped
-    ensures step { Helps (leg_type L.model L.honest) refusal gated.old gated.new result }
-    ensures durable { gated.new.durable ≡ gated.old.durable }
+fn help<L: LegPart, J: Naming>(held: &mut Held<L, J>, refusal: Refusal) -> Helped
+    ensures step { Helps (leg_type L.model L.honest) refusal held.old.gated held.new.gated result }
+    ensures others { held.new ≡ with_stripe held.new.gated.stripe held.old }
 {
     match refusal {
         Refusal::Busy(ticket) => {
-            let owed = gated.stripe.next_owed(ticket).map(|leg| (ticket, leg));
-            push_to(&mut gated.stripe, owed)
+            let owed = held.gated.stripe.next_owed(ticket).map(|leg| (ticket, leg));
+            push_to(held, owed)
         }
         Refusal::Settling => {
-            let owed = gated.stripe.first_owed();
-            push_to(&mut gated.stripe, owed)
+            let owed = held.gated.stripe.first_owed();
+            push_to(held, owed)
         }
-        Refusal::OtherCopy(leg) => copy_to(gated, leg),
+        Refusal::OtherCopy(leg) => copy_to(held, leg),
         _ => Helped::Nothing,
     }
 }
@@ -210,7 +222,7 @@ impl Helped {
     }
 }
 
-impl<L: LegPart, G: Gate + Drop> Mirror<L, G> {
+impl<L: LegPart, G: Gate + Drop, J: Naming> Mirror<L, G, J> {
     /// In every stripe, for each joining leg, does what brings it nearer to being in sync: calls it
     /// so where nothing is left to copy to it, and else copies to it, by a run of blocks or half of
     /// that. Where a write or another copy stands in the way of the copy, it helps that by one
@@ -293,8 +305,8 @@ impl<L: LegPart, G: Gate + Drop> Mirror<L, G> {
             return None;
         }
         let place = self.place_of(&held.gated.stripe, leg, round.place(stripe, leg));
-        let tried = bring_up(&mut held.gated, leg, place);
-        drop_doubted(&mut held.gated.stripe, leg, tried, doubts);
+        let tried = bring_up(&mut held, leg, place);
+        drop_doubted(&mut held, leg, tried, doubts);
         let is_unsaved = held.gated.wants_save();
         drop(held);
         if is_unsaved {
@@ -315,7 +327,7 @@ impl<L: LegPart, G: Gate + Drop> Mirror<L, G> {
         let Some(refusal) = first.refusal else {
             return 1;
         };
-        let helped = help(&mut self.hold(rt, stripe).gated, refusal);
+        let helped = help(&mut self.hold(rt, stripe), refusal);
         let Some(second) = helped.step() else {
             return 0;
         };

@@ -1,17 +1,20 @@
-//! What a save takes from one stripe after the other, and what it tells their gates.
+//! What a save takes from one stripe after the other.
 ghost use Rattle.std.specs.Prelude.{◌≡◌, ◌<◌, ◌&&◌, replicate, true};
 ghost use Rattle.nm_gate.specs.Changes.{Leads};
 ghost use Rattle.nm_gate.specs.Claims.{no_claims};
 ghost use Rattle.nm_leg.specs.Leg.{leg_type};
+ghost use Rattle.nm_mirror.specs.Holding.{with_gated};
 ghost use Rattle.nm_mirror.specs.Saves.{IsJoined};
-ghost use Rattle.nm_mirror.specs.Saving.{BeginsAt, EndsAt, FailsAt, KeepsOut, Takes, is_out_in};
+ghost use Rattle.nm_mirror.specs.Saving.{BeginsAt, KeepsOut, Takes, is_out_in};
 ghost use Rattle.nm_rules.specs.Invariant.{HasLegs};
 ghost use Rattle.nm_rules.specs.State.{is_out};
 
+use crate::held::Held;
 use crate::save_desk::MOST_SPANS;
-use crate::save_order::{MOST_STRIPES, SaveOrder};
+use crate::save_order::MOST_STRIPES;
 use crate::whole::called_whole;
-use nm_gate::{GatedStripe, LegClaims};
+use nm_book::Naming;
+use nm_gate::LegClaims;
 use nm_geometry::LegSet;
 use nm_leg::LegPart;
 use nm_stripe::{LegState, Stripe};
@@ -92,37 +95,19 @@ impl Taken {
 
     /// Begins a save in this stripe, and takes from it what the next superblock says of it, which
     /// calls these legs partial no more.
-    pub(crate) fn take<L: LegPart>(&mut self, gated: &mut GatedStripe<L>, whole: &LegSet)
-        requires { gated.old.stripe.place.stripe < 64 }
-        ensures takes { Takes gated.old whole.now self.old self.new }
-        ensures begins { BeginsAt self.new.spans gated.old gated.new }
-        ensures moves { HasLegs L.model gated.old.stripe → Leads (leg_type L.model L.honest)
-            gated.old.stripe gated.old.durable gated.new.stripe gated.new.durable }
+    pub(crate) fn take<L: LegPart, J: Naming>(&mut self, held: &mut Held<L, J>, whole: &LegSet)
+        requires { held.old.gated.stripe.place.stripe < 64 }
+        ensures takes { Takes held.old.gated whole.now self.old self.new }
+        ensures begins { BeginsAt self.new.spans held.old.gated held.new.gated }
+        ensures moves { HasLegs L.model held.old.gated.stripe → Leads (leg_type L.model L.honest)
+            held.old.gated.stripe held.old.gated.durable
+            held.new.gated.stripe held.new.gated.durable }
+        ensures others { held.new ≡ with_gated held.new.gated held.old }
     {
-        join_marks(&mut self.spans, gated.marks());
-        let number = gated.stripe.number() as usize;
-        self.out = kept_out(&gated.stripe, &self.out);
-        let claims = gated.begin_save(&self.spans);
+        join_marks(&mut self.spans, held.gated.marks());
+        let number = held.gated.stripe.number() as usize;
+        self.out = kept_out(&held.gated.stripe, &self.out);
+        let claims = held.begin_save(&self.spans);
         self.claims[number] = called_whole(&claims, whole);
     }
-}
-
-/// Tells a stripe's gate that this order's superblock is the durable one.
-pub(crate) fn end_at<L: LegPart>(gated: &mut GatedStripe<L>, order: &SaveOrder)
-    requires { gated.old.stripe.place.stripe < 64 }
-    ensures ends { EndsAt order.now gated.old gated.new }
-    ensures moves { HasLegs L.model gated.old.stripe → Leads (leg_type L.model L.honest)
-        gated.old.stripe gated.old.durable gated.new.stripe gated.new.durable }
-{
-    let claims = order.claims_on(gated.stripe.number());
-    gated.end_save(claims, &order.spans);
-}
-
-/// Tells a stripe's gate that a save could not be done.
-pub(crate) fn fail_at<L: LegPart>(gated: &mut GatedStripe<L>)
-    ensures fails { FailsAt gated.old gated.new }
-    ensures moves { Leads (leg_type L.model L.honest)
-        gated.old.stripe gated.old.durable gated.new.stripe gated.new.durable }
-{
-    gated.fail_save();
 }

@@ -7,7 +7,8 @@ use crate::bounds::within_bounds;
 use crate::mirror::Mirror;
 use crate::save_desk::{MOST_SPANS, Wanted};
 use crate::save_order::SaveOrder;
-use crate::save_taking::{Taken, end_at, fail_at, join_marks};
+use crate::save_taking::{Taken, join_marks};
+use nm_book::Naming;
 use nm_geometry::LegSet;
 use nm_lanes::Gate;
 use nm_leg::LegPart;
@@ -17,7 +18,7 @@ use std::time::{Clock, Duration};
 
 /// Saves, for the one thread that does them: `next_save`, then `begin_save`, then `end_save` or
 /// `fail_save`. In a mirror without superblocks none is ever wanted.
-impl<L: LegPart, G: Gate + Drop> Mirror<L, G> {
+impl<L: LegPart, G: Gate + Drop, J: Naming> Mirror<L, G, J> {
     /// Asks for a save.
     pub fn want_save<R: Wait>(&self, rt: &R) {
         if let Some(desk) = &self.desk {
@@ -92,7 +93,7 @@ impl<L: LegPart, G: Gate + Drop> Mirror<L, G> {
         let mut taken = Taken::new(spans);
         'stripes: for stripe in 0..self.shape.stripes {
             let mut held = self.hold(rt, stripe);
-            taken.take(&mut held.gated, whole);
+            taken.take(&mut held, whole);
         }
         taken
     }
@@ -129,7 +130,7 @@ impl<L: LegPart, G: Gate + Drop> Mirror<L, G> {
         within_bounds(&self.shape);
         for stripe in 0..self.shape.stripes {
             let mut held = self.hold(rt, stripe);
-            end_at(&mut held.gated, &order);
+            held.end_save(&order);
             held.claim_left();
         }
         if let Some(desk) = &self.desk {
@@ -142,7 +143,7 @@ impl<L: LegPart, G: Gate + Drop> Mirror<L, G> {
     pub fn fail_save<R: Wait>(&self, rt: &R) {
         for lock in &self.locks {
             let mut held = lock.hold(rt);
-            fail_at(&mut held.gated);
+            held.fail_save();
         }
         if let Some(desk) = &self.desk {
             desk.fail(rt);

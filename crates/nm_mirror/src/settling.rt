@@ -7,14 +7,15 @@ ghost use Rattle.nm_leg.specs.Leg.{leg_type};
 ghost use Rattle.nm_gate.specs.Claims.{legs_where, marks_of};
 ghost use Rattle.nm_gate.specs.Settling.{EndsInFailure, MaySettle, TriesSync};
 ghost use Rattle.nm_geometry.specs.LegSets.{AreBitsOf};
+ghost use Rattle.nm_mirror.specs.Holding.{with_gated, with_stripe};
 ghost use Rattle.nm_mirror.specs.Settling.{WasSynced, SyncsFirst, SyncsSome};
 ghost use Rattle.nm_mirror.specs.Settling.{HasAtWork, is_at_work};
 
 use crate::ask::{Ask, refusal_of};
 use crate::doubts::Doubts;
-use crate::lock::Lock;
+use crate::held::Held;
 use crate::mirror::Mirror;
-use nm_gate::GatedStripe;
+use nm_book::Naming;
 use nm_geometry::LegSet;
 use nm_lanes::Gate;
 use nm_leg::LegPart;
@@ -22,11 +23,13 @@ use nm_stripe::{LegState, Refusal, Stripe, Syncing};
 use std::sync::Wait;
 
 /// Flushes the leg, if it is not out. Whether it does not fail.
-fn flush_one<L: LegPart>(stripe: &mut Stripe<L>, leg: u8) -> bool
-    requires { leg < length stripe.old.legs }
-    ensures { TriesSync (leg_type L.model L.honest) leg result stripe.old stripe.new }
+fn flush_one<L: LegPart, J: Naming>(held: &mut Held<L, J>, leg: u8) -> bool
+    requires { leg < length held.old.gated.stripe.legs }
+    ensures tries { TriesSync (leg_type L.model L.honest) leg result held.old.gated.stripe
+        held.new.gated.stripe }
+    ensures others { held.new ≡ with_stripe held.new.gated.stripe held.old }
 {
-    match stripe.flush(leg) {
+    match held.flush_leg(leg) {
         Ok(Syncing::Synced) => true,
         Ok(Syncing::LegLost(_)) => false,
         Err(Refusal::AlreadyOut) => true,
@@ -35,15 +38,18 @@ fn flush_one<L: LegPart>(stripe: &mut Stripe<L>, leg: u8) -> bool
 }
 
 /// Flushes each leg of the stripe that is not out, until one fails. Whether none does.
-fn flush_legs<L: LegPart>(stripe: &mut Stripe<L>) -> bool
+fn flush_legs<L: LegPart, J: Naming>(held: &mut Held<L, J>) -> bool
     ensures synced { IsTrue result → SyncsFirst (leg_type L.model L.honest)
-        (length stripe.old.legs) stripe.old stripe.new }
-    ensures failed { result ≡ false → EndsInFailure (leg_type L.model L.honest) stripe.new }
-    ensures moves { SyncsSome (leg_type L.model L.honest) stripe.old stripe.new }
+        (length held.old.gated.stripe.legs) held.old.gated.stripe held.new.gated.stripe }
+    ensures failed { result ≡ false
+        → EndsInFailure (leg_type L.model L.honest) held.new.gated.stripe }
+    ensures moves { SyncsSome (leg_type L.model L.honest) held.old.gated.stripe
+        held.new.gated.stripe }
+    ensures others { held.new ≡ with_stripe held.new.gated.stripe held.old }
 {
-    let legs = stripe.legs() as u8;
+    let legs = held.gated.stripe.legs() as u8;
     'legs: for leg in 0..legs {
-        if !flush_one(stripe, leg) {
+        if !flush_one(held, leg) {
             return false;
         }
     }
@@ -107,32 +113,29 @@ fn has_doubted<L: LegPart>(stripe: &Stripe<L>, doubted: &LegSet) -> bool
 /// Its legs are synced before it is looked whether one is in doubt: a power loss under way would
 /// fail a call by then. The syncs by which the gate settles make no call any more, since nothing
 /// was written since.
-fn settle_gated<L: LegPart, D: Doubts>(gated: &mut GatedStripe<L>, doubts: &D) -> bool
-    ensures none { gated.old.durable ≡ None → result ≡ false }
-    ensures marked { IfSome gated.old.durable (λ d. IsTrue result
+fn try_settle<L: LegPart, J: Naming, D: Doubts>(held: &mut Held<L, J>, doubts: &D) -> bool
+    ensures none { held.old.gated.durable ≡ None → result ≡ false }
+    ensures marked { IfSome held.old.gated.durable (λ d. IsTrue result
         → IsTrue (list_any (λ marked. marked) d.marked)) }
-    ensures synced { IfSome gated.old.durable (λ d. IsTrue result → MaySettle gated.old.stripe d) }
+    ensures synced { IfSome held.old.gated.durable (λ d. IsTrue result
+        → MaySettle held.old.gated.stripe d) }
     ensures flushed { IsTrue result
-        → WasSynced (leg_type L.model L.honest) gated.old.stripe }
+        → WasSynced (leg_type L.model L.honest) held.old.gated.stripe }
     ensures settled { IsTrue result → (span : ℕ)
-        → slice_index_or (marks_of gated.new.durable) span false ≡ false }
-    ensures stays { result ≡ false → gated.new.durable ≡ gated.old.durable }
+        → slice_index_or (marks_of held.new.gated.durable) span false ≡ false }
+    ensures stays { result ≡ false → held.new.gated.durable ≡ held.old.gated.durable }
+    ensures others { held.new ≡ with_gated held.new.gated held.old }
 {
-    if !gated.may_settle() {
+    if !held.gated.may_settle() {
         return false;
     }
-    if !flush_legs(&mut gated.stripe) {
+    if !flush_legs(held) {
         return false;
     }
-    if has_doubted(&gated.stripe, &doubted_of(doubts)) {
+    if has_doubted(&held.gated.stripe, &doubted_of(doubts)) {
         return false;
     }
-    gated.settle()
-}
-
-/// The same, in one hold.
-fn settle<L: LegPart, R: Wait, D: Doubts>(rt: &R, lock: &Lock<L>, doubts: &D) -> bool {
-    settle_gated(&mut lock.hold(rt).gated, doubts)
+    held.settle()
 }
 
 /// The legs that are not out in the stripe, a bit each.
@@ -142,7 +145,7 @@ fn legs_at_work<L: LegPart>(stripe: &Stripe<L>) -> u8
     at_work(stripe).bits()
 }
 
-impl<L: LegPart, G: Gate + Drop> Mirror<L, G> {
+impl<L: LegPart, G: Gate + Drop, J: Naming> Mirror<L, G, J> {
     /// Counts a turn of each stripe in which something is not synced. After six it is due. No
     /// stripe is held.
     pub fn age(&self) {
@@ -191,7 +194,7 @@ impl<L: LegPart, G: Gate + Drop> Mirror<L, G> {
             let mut held = lock.hold(rt);
             if refusal_of(&held.gated, Ask::Answer).is_none() {
                 lock.note_sync();
-                let _ = flush_legs(&mut held.gated.stripe);
+                let _ = flush_legs(&mut held);
             }
             return Some(lock.number.saturating_add(1));
         }
@@ -204,7 +207,7 @@ impl<L: LegPart, G: Gate + Drop> Mirror<L, G> {
         let mut is_cleared = false;
         for lock in &self.locks {
             if lock.was_quiet() {
-                is_cleared = settle(rt, lock, doubts) || is_cleared;
+                is_cleared = try_settle(&mut lock.hold(rt), doubts) || is_cleared;
             }
         }
         if is_cleared {
@@ -216,7 +219,7 @@ impl<L: LegPart, G: Gate + Drop> Mirror<L, G> {
     /// doubt, for the end of a server. The save after it says so.
     pub fn settle_all<R: Wait, D: Doubts>(&self, rt: &R, doubts: &D) {
         for lock in &self.locks {
-            let _ = settle(rt, lock, doubts);
+            let _ = try_settle(&mut lock.hold(rt), doubts);
         }
     }
 }

@@ -1,11 +1,12 @@
 //! Writes that are shut out of the legs while a flush has their files synced.
 
 use crate::mirror::Mirror;
+use nm_book::Naming;
 use nm_lanes::Gate;
 use nm_leg::LegPart;
 use std::sync::{MutexGuard, Wait};
 
-impl<L: LegPart, G: Gate + Drop> Mirror<L, G> {
+impl<L: LegPart, G: Gate + Drop, J: Naming> Mirror<L, G, J> {
     /// Whether something was written in a stripe since its last sync began.
     pub fn has_unsynced(&self) -> bool {
         self.locks.iter().any(|lock| lock.is_unsynced())

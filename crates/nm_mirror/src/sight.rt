@@ -1,6 +1,7 @@
 //! When a stripe was looked at.
 
 use crate::held::Held;
+use nm_book::Naming;
 use nm_leg::LegPart;
 
 /// The opening in which a stripe was looked at, and the ticket that its next write had then: where
@@ -13,7 +14,7 @@ pub struct Sight {
 
 impl Sight {
     /// Whether a write began in the stripe since, or it was opened anew.
-    pub(crate) fn is_past<L: LegPart>(self, held: &Held<L>) -> bool {
+    pub(crate) fn is_past<L: LegPart, J: Naming>(self, held: &Held<L, J>) -> bool {
         held.openings != self.opening || held.gated.stripe.tickets() != self.tickets
     }
 }

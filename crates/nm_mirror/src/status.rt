@@ -3,6 +3,7 @@ ghost use Rattle.std.specs.Prelude.{◌≡◌, ◌<◌, length, IfOk};
 ghost use Rattle.nm_mirror.specs.Status.{AreLegs, EachTellsOf, IsStatus, KeepsEntries, TellsOf};
 
 use crate::mirror::Mirror;
+use nm_book::Naming;
 use nm_geometry::MOST_LEGS;
 use nm_lanes::Gate;
 use nm_leg::LegPart;
@@ -97,7 +98,7 @@ impl fmt::Display for StripeStatus {
     }
 }
 
-impl<L: LegPart, G: Gate + Drop> Mirror<L, G> {
+impl<L: LegPart, G: Gate + Drop, J: Naming> Mirror<L, G, J> {
     /// What each stripe is doing, by rising number of the stripes.
     pub fn status<R: Wait>(&self, rt: &R, alloc: Global) -> Result<Vec<StripeStatus>, Memory>
         ensures all { IfOk result (λ all. length all.items ≡ self.now.shape.stripes) }

@@ -7,13 +7,14 @@ ghost use Rattle.nm_verify.specs.Verification.{noted};
 
 use crate::bounds::within_bounds;
 use crate::mirror::Mirror;
+use nm_book::Naming;
 use nm_lanes::Gate;
 use nm_leg::LegPart;
 use nm_stripe::At;
-use nm_verify::{Begun, Cursor, Half, MOST_BYTES, Seen, Verification, look_first, look_second};
+use nm_verify::{Begun, Cursor, Half, MOST_BYTES, Seen, Verification};
 use std::sync::Wait;
 
-impl<L: LegPart, G: Gate + Drop> Mirror<L, G> {
+impl<L: LegPart, G: Gate + Drop, J: Naming> Mirror<L, G, J> {
     /// Looks at the first leg there in one hold of the stripe, whose place it gives.
     fn look_first<R: Wait>(&self, rt: &R, at: Cursor, held: &mut [u8]) -> (At, Begun)
         requires stripe { at.stripe < self.now.shape.stripes }
@@ -23,7 +24,7 @@ impl<L: LegPart, G: Gate + Drop> Mirror<L, G> {
     {
         let mut lent = self.hold(rt, at.stripe);
         let place = lent.gated.stripe.place();
-        (place, look_first(&mut lent.gated.stripe, at, held))
+        (place, lent.look_first(at, held))
     }
 
     /// Looks at the second leg there in another hold.
@@ -43,7 +44,7 @@ impl<L: LegPart, G: Gate + Drop> Mirror<L, G> {
         ensures room { length found.new ≡ 65536 }
     {
         let mut lent = self.hold(rt, at.stripe);
-        look_second(&mut lent.gated.stripe, at, half, held, found)
+        lent.look_second(at, half, held, found)
     }
 
     /// Looks at the two legs that are compared next, each in one hold of the stripe, and says what

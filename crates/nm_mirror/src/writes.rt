@@ -11,6 +11,7 @@ use crate::bounds::within_bounds;
 use crate::mirror::Mirror;
 use crate::pass::Pass;
 use bytes::Bytes;
+use nm_book::Naming;
 use nm_lanes::{CallError, Gate, WriteFault, write_by, zero_by};
 use nm_leg::LegPart;
 use nm_replay::BLOCK_BYTES;
@@ -18,7 +19,7 @@ use std::alloc::Global;
 use std::sync::Wait;
 use std::sync::atomic::AtomicBool;
 
-impl<L: LegPart, G: Gate + Drop> Mirror<L, G> {
+impl<L: LegPart, G: Gate + Drop, J: Naming> Mirror<L, G, J> {
     /// Writes the payload to the export from `offset` on: to each block that it touches once, in
     /// order. A block that it fills is written whole; of another the rest stays.
     ///
@@ -31,7 +32,7 @@ impl<L: LegPart, G: Gate + Drop> Mirror<L, G> {
         &self,
         rt: &R,
         alloc: Global,
-        pass: &mut Pass<L>,
+        pass: &mut Pass<L, J>,
         offset: u64,
         payload: Bytes,
     ) -> Result<(), WriteFault>
@@ -58,7 +59,7 @@ impl<L: LegPart, G: Gate + Drop> Mirror<L, G> {
         &self,
         rt: &R,
         alloc: Global,
-        pass: &mut Pass<L>,
+        pass: &mut Pass<L, J>,
         from: u64,
         payload: Bytes,
     ) -> Result<(), WriteFault>
@@ -91,7 +92,7 @@ impl<L: LegPart, G: Gate + Drop> Mirror<L, G> {
     pub fn zero_at<R: Wait>(
         &self,
         rt: &R,
-        pass: &mut Pass<L>,
+        pass: &mut Pass<L, J>,
         offset: u64,
         len: u64,
         is_gone: Option<&AtomicBool>,
@@ -116,7 +117,7 @@ impl<L: LegPart, G: Gate + Drop> Mirror<L, G> {
     pub fn zero<R: Wait>(
         &self,
         rt: &R,
-        pass: &mut Pass<L>,
+        pass: &mut Pass<L, J>,
         from: u64,
         count: u64,
         is_gone: Option<&AtomicBool>,

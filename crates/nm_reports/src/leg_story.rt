@@ -7,7 +7,7 @@ use crate::unread::region_bytes;
 use nm_geometry::{MOST_LEGS, Shape};
 use nm_lanes::Gate;
 use nm_leg::LegPart;
-use nm_mirror::{CopyRound, LegStatus, Mirror, StripeStatus, UnreadRegion};
+use nm_mirror::{CopyRound, LegStatus, Mirror, Naming, StripeStatus, UnreadRegion};
 use nm_service::{Interval, LegSight};
 use nm_stripe::LegState;
 use std::alloc::{AllocError, Global};
@@ -153,11 +153,11 @@ impl LegStory {
     }
 
     // Looks at each stripe. One that is busy stays as it was.
-    fn see<R: Wait + Clock, L: LegPart, G: Gate + Drop>(
+    fn see<R: Wait + Clock, L: LegPart, G: Gate + Drop, J: Naming>(
         &mut self,
         rt: &R,
         alloc: Global,
-        mirror: &Mirror<L, G>,
+        mirror: &Mirror<L, G, J>,
     ) {
         let Ok(glances) = mirror.glance(rt, alloc) else {
             return;
@@ -199,12 +199,12 @@ impl LegStory {
     }
 
     /// Tells in a line a leg how each of them stands, as the server begins or ends.
-    pub fn tell_all<R: Wait + Clock, L: LegPart, G: Gate + Drop>(
+    pub fn tell_all<R: Wait + Clock, L: LegPart, G: Gate + Drop, J: Naming>(
         &mut self,
         rt: &R,
         alloc: Global,
         lines: &LogLines,
-        mirror: &Mirror<L, G>,
+        mirror: &Mirror<L, G, J>,
         when: &str,
     ) {
         self.see(rt, alloc, mirror);
@@ -220,12 +220,12 @@ impl LegStory {
     }
 
     /// Tells what has changed by this time, in milliseconds.
-    pub fn tell_changes<R: Wait + Clock, L: LegPart, G: Gate + Drop>(
+    pub fn tell_changes<R: Wait + Clock, L: LegPart, G: Gate + Drop, J: Naming>(
         &mut self,
         rt: &R,
         alloc: Global,
         lines: &LogLines,
-        mirror: &Mirror<L, G>,
+        mirror: &Mirror<L, G, J>,
         now: u64,
     ) {
         self.see(rt, alloc, mirror);

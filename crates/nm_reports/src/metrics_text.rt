@@ -7,7 +7,7 @@ use crate::metrics_page::MetricsPage;
 use crate::server_metrics::{Known, put_server, put_superblocks, put_verified};
 use nm_lanes::Gate;
 use nm_leg::LegPart;
-use nm_mirror::{Glance, LegStatus, Mirror, StripeStatus};
+use nm_mirror::{Glance, LegStatus, Mirror, Naming, StripeStatus};
 use nm_stripe::LegState;
 use std::alloc::{AllocError, Global};
 use std::sync::Wait;
@@ -347,10 +347,10 @@ fn put_all(
 
 /// Puts all that a server counts and knows, how its legs stand, and how much is left to copy; at
 /// last a line `end`.
-pub fn put_metrics<R: Wait + Clock, L: LegPart, G: Gate + Drop>(
+pub fn put_metrics<R: Wait + Clock, L: LegPart, G: Gate + Drop, J: Naming>(
     rt: &R,
     alloc: Global,
-    mirror: &Mirror<L, G>,
+    mirror: &Mirror<L, G, J>,
     known: &Known<'_>,
     metrics: &Metrics,
     text: &mut String,

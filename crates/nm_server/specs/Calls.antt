@@ -120,7 +120,7 @@ pub record PassState : Type 0 where
   pub parts : List PartState
 
 -- this pass through a mirror of this shape
-abbrev pub state_of : {L : Type 0} → Geometry → Pass L → PassState
+abbrev pub state_of : {L J : Type 0} → Geometry → Pass L J → PassState
 state_of shape pass = record { shape = shape; parts = pass.parts.items }
 
 -- the calls lead from one to the other, and the shape stays

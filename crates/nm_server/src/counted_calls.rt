@@ -6,7 +6,7 @@ use crate::mirror_calls::MirrorCalls;
 use nm_connections::Activity;
 use nm_geometry::Shape;
 use nm_leg::LegPart;
-use nm_mirror::Pass;
+use nm_mirror::{Naming, Pass};
 use nm_reports::MirrorCall;
 use nm_session::TargetFault;
 use std::sync::atomic::AtomicBool;
@@ -18,7 +18,7 @@ pub struct CountedCalls<'a, C> {
     pub(crate) activity: &'a Activity,
 }
 
-impl<'a, L: LegPart, C: MirrorCalls<L>> MirrorCalls<L> for CountedCalls<'a, C> {
+impl<'a, L: LegPart, J: Naming, C: MirrorCalls<L, J>> MirrorCalls<L, J> for CountedCalls<'a, C> {
     ghost shape = { λ counted. C.shape counted.calls };
 
     fn layout(&self) -> &Shape {
@@ -27,7 +27,7 @@ impl<'a, L: LegPart, C: MirrorCalls<L>> MirrorCalls<L> for CountedCalls<'a, C> {
 
     fn call_through(
         &self,
-        pass: &mut Pass<L>,
+        pass: &mut Pass<L, J>,
         call: MirrorCall,
         into: &mut [u8],
         is_gone: Option<&AtomicBool>,

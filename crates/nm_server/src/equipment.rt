@@ -8,7 +8,7 @@ use nm_control::{Copier, CopyOrders, Healing, LegWatch, MissingLegs};
 use nm_leg_files::{
     FileMirror, LateSlots, LateSuperblock, Leg, LegFiles, LegPlace, LegSyncs, SuperblockWriter,
 };
-use nm_mirror::{MOST_PASSES, Pass};
+use nm_mirror::{MOST_PASSES, Naming, Pass};
 use nm_reports::{LogLines, Metrics, MirrorDoubts, StartFault};
 use nm_starts::{OpenedMirror, Superblocks, open_asked_for};
 use std::alloc::{AllocError, Global};
@@ -21,12 +21,12 @@ use std::time::Clock;
 
 // The passes of who copies legs, and of so many sessions, as far as a mirror makes so many: the
 // last of 64 sessions has one less than others.
-fn passes_of<R: Wait>(
+fn passes_of<R: Wait, J: Naming>(
     rt: &R,
     alloc: Global,
-    mirror: &FileMirror,
+    mirror: &FileMirror<J>,
     sessions: u8,
-) -> Result<Vec<Pass<Leg>>, StartFault> {
+) -> Result<Vec<Pass<Leg, J>>, StartFault> {
     let mut passes = Vec::new(alloc);
     let wanted = 1 + sessions as usize * AT_ONCE;
     for _ in 0..wanted.min(MOST_PASSES as usize) {
@@ -95,9 +95,9 @@ fn orders_of(
 }
 
 // The copier of the mirror, which tells of its legs by their files' names.
-fn copier_of(
+fn copier_of<J: Naming>(
     alloc: Global,
-    mirror: &FileMirror,
+    mirror: &FileMirror<J>,
     files: &LegFiles,
     places: &[Arc<LegPlace>],
     copies: &CopySettings,
@@ -167,11 +167,11 @@ fn equip(
 
 /// The mirror with its passes, who copies its legs, and what is at hand beside it.
 #[derive(Drop)]
-pub struct Opened {
+pub struct Opened<J: Naming> {
     /// The mirror.
-    pub mirror: FileMirror,
+    pub mirror: FileMirror<J>,
     /// The passes of who copies its legs, and of its sessions.
-    pub passes: Vec<Pass<Leg>>,
+    pub passes: Vec<Pass<Leg, J>>,
     /// Who copies its legs.
     pub copier: Copier,
     /// What is at hand beside it.
@@ -179,27 +179,27 @@ pub struct Opened {
 }
 
 // Who copies the mirror's legs, and the passes of who does so and of its sessions.
-fn attended<R: Wait>(
+fn attended<R: Wait, J: Naming>(
     rt: &R,
     alloc: Global,
     settings: &Settings<'_>,
     files: &LegFiles,
-    mirror: &FileMirror,
+    mirror: &FileMirror<J>,
     own: &Equipment,
-) -> Result<(Copier, Vec<Pass<Leg>>), StartFault> {
+) -> Result<(Copier, Vec<Pass<Leg, J>>), StartFault> {
     let copier = copier_of(alloc, mirror, files, &own.places, &settings.copies)?;
     let passes = passes_of(rt, alloc, mirror, settings.clients.sessions)?;
     Ok((copier, passes))
 }
 
 // The mirror with all that it is served by.
-fn equipped<R: Wait>(
+fn equipped<R: Wait, J: Naming>(
     rt: &R,
     alloc: Global,
     settings: &Settings<'_>,
     files: &LegFiles,
-    opened: OpenedMirror,
-) -> Result<Opened, StartFault> {
+    opened: OpenedMirror<J>,
+) -> Result<Opened<J>, StartFault> {
     let OpenedMirror {
         mirror,
         superblocks,
@@ -216,14 +216,14 @@ fn equipped<R: Wait>(
 
 /// Opens the mirror over these files. From then on a leg's file is held by its place and its
 /// stripes alone, which another may get.
-pub fn open<R>(
+pub fn open<R, J: Naming>(
     rt: &R,
     alloc: Global,
     settings: &Settings<'_>,
     mut files: LegFiles,
     control: &Listener,
     lines: &LogLines,
-) -> Result<Opened, StartFault>
+) -> Result<Opened<J>, StartFault>
 where
     R: Threads + Wait + Sync + Clock + RandomSource + Files<File = File>,
 {

@@ -11,7 +11,7 @@ use nm_geometry::Shape;
 use nm_lanes::{Gate, WriteFault};
 use nm_leg::LegPart;
 use nm_leg_files::{FileMirror, Leg, LegSyncs};
-use nm_mirror::{Mirror, Pass};
+use nm_mirror::{Mirror, Naming, Pass};
 use nm_reports::{Metrics, MirrorCall, MirrorCallKind, bytes_of, microseconds_since};
 use nm_session::TargetFault;
 use std::alloc::Global;
@@ -22,10 +22,10 @@ use std::time::{Clock, Instant};
 /// The mirror of the program, with the runtime whose threads call it, and where its calls are
 /// counted: those of a place, and those of all places.
 #[derive(Drop)]
-pub struct FileCalls<'a, R> {
+pub struct FileCalls<'a, R, J: Naming> {
     pub(crate) rt: &'a R,
     pub(crate) alloc: Global,
-    pub(crate) mirror: &'a FileMirror,
+    pub(crate) mirror: &'a FileMirror<J>,
     pub(crate) syncs: &'a LegSyncs,
     pub(crate) metrics: &'a Metrics,
     pub(crate) place: usize,
@@ -42,7 +42,7 @@ fn told(answer: Result<(), TargetFault>, is_full: bool) -> Result<(), TargetFaul
     }
 }
 
-impl<R: Wait + Copy + Clock> FileCalls<'_, R> {
+impl<R: Wait + Copy + Clock, J: Naming> FileCalls<'_, R, J> {
     // Has the legs' files synced ahead of a call that syncs, outside every lock. Where something
     // was written meanwhile a FLUSH shuts out writes, and has them synced once more: so its stripes
     // make no call, and it makes two of each file, however many clients write. Its turn, then.
@@ -66,7 +66,7 @@ impl<R: Wait + Copy + Clock> FileCalls<'_, R> {
     }
 }
 
-impl<'a, R: Wait + Copy + Clock> MirrorCalls<Leg> for FileCalls<'a, R> {
+impl<'a, R: Wait + Copy + Clock, J: Naming> MirrorCalls<Leg, J> for FileCalls<'a, R, J> {
     ghost shape = { λ calls. calls.mirror.now.shape };
 
     fn layout(&self) -> &Shape {
@@ -75,7 +75,7 @@ impl<'a, R: Wait + Copy + Clock> MirrorCalls<Leg> for FileCalls<'a, R> {
 
     fn call_through(
         &self,
-        pass: &mut Pass<Leg>,
+        pass: &mut Pass<Leg, J>,
         call: MirrorCall,
         into: &mut [u8],
         is_gone: Option<&AtomicBool>,
@@ -102,11 +102,11 @@ impl<'a, R: Wait + Copy + Clock> MirrorCalls<Leg> for FileCalls<'a, R> {
 }
 
 // Writes these bytes to the mirror through the pass.
-fn write_mirror<R: Wait, L: LegPart, G: Gate + Drop>(
+fn write_mirror<R: Wait, L: LegPart, G: Gate + Drop, J: Naming>(
     rt: &R,
     alloc: Global,
-    mirror: &Mirror<L, G>,
-    pass: &mut Pass<L>,
+    mirror: &Mirror<L, G, J>,
+    pass: &mut Pass<L, J>,
     offset: u64,
     payload: Bytes,
 ) -> Result<(), TargetFault>
@@ -123,10 +123,10 @@ fn write_mirror<R: Wait, L: LegPart, G: Gate + Drop>(
 }
 
 // Writes so many zeroes to the mirror through the pass.
-fn zero_mirror<R: Wait, L: LegPart, G: Gate + Drop>(
+fn zero_mirror<R: Wait, L: LegPart, G: Gate + Drop, J: Naming>(
     rt: &R,
-    mirror: &Mirror<L, G>,
-    pass: &mut Pass<L>,
+    mirror: &Mirror<L, G, J>,
+    pass: &mut Pass<L, J>,
     offset: u64,
     count: u64,
     is_gone: Option<&AtomicBool>,
@@ -145,11 +145,11 @@ fn zero_mirror<R: Wait, L: LegPart, G: Gate + Drop>(
 /// Makes this call of the mirror through the pass, a read's into the buffer. Refused memory is told
 /// as such, and a fault of the mirror as an I/O fault; so are zeroes that ended before their next
 /// region, since their client `is_gone`.
-pub fn call_mirror<R: Wait, L: LegPart, G: Gate + Drop>(
+pub fn call_mirror<R: Wait, L: LegPart, G: Gate + Drop, J: Naming>(
     rt: &R,
     alloc: Global,
-    mirror: &Mirror<L, G>,
-    pass: &mut Pass<L>,
+    mirror: &Mirror<L, G, J>,
+    pass: &mut Pass<L, J>,
     call: MirrorCall,
     into: &mut [u8],
     is_gone: Option<&AtomicBool>,

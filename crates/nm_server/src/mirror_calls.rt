@@ -6,13 +6,13 @@ ghost use Rattle.nm_server.specs.Calls.{Acts, IsEven, IsInside, answered};
 
 use nm_geometry::Shape;
 use nm_leg::LegPart;
-use nm_mirror::Pass;
+use nm_mirror::{Naming, Pass};
 use nm_reports::MirrorCall;
 use nm_session::TargetFault;
 use std::sync::atomic::AtomicBool;
 
 /// The calls of a mirror, each through a pass of its shape.
-pub trait MirrorCalls<L: LegPart> {
+pub trait MirrorCalls<L: LegPart, J: Naming> {
     /// How the blocks of the mirror lie in its stripes.
     ghost shape: { Self → Geometry };
 
@@ -24,7 +24,7 @@ pub trait MirrorCalls<L: LegPart> {
     /// may end before their end once `is_gone`, where that is told.
     fn call_through(
         &self,
-        pass: &mut Pass<L>,
+        pass: &mut Pass<L, J>,
         call: MirrorCall,
         into: &mut [u8],
         is_gone: Option<&AtomicBool>,

@@ -8,16 +8,16 @@ use crate::mirror_calls::MirrorCalls;
 use bytes::Bytes;
 use nm_geometry::Shape;
 use nm_leg::LegPart;
-use nm_mirror::Pass;
+use nm_mirror::{Naming, Pass};
 use nm_reports::MirrorCall;
 use nm_session::{Target, TargetFault};
 use std::sync::atomic::AtomicBool;
 
 /// A mirror as a session's target, through a pass that has a part for each of its stripes.
 #[derive(Drop)]
-pub struct MirrorTarget<'a, L: LegPart, C: MirrorCalls<L> + Drop, H> {
+pub struct MirrorTarget<'a, L: LegPart, J: Naming, C: MirrorCalls<L, J> + Drop, H> {
     mirror: &'a C,
-    pass: &'a mut Pass<L>,
+    pass: &'a mut Pass<L, J>,
     // Set once the client has gone, for which zeroes need not be written to their end.
     is_gone: Option<&'a AtomicBool>,
     // Dropped with the target, once its session asks for nothing more.
@@ -25,15 +25,15 @@ pub struct MirrorTarget<'a, L: LegPart, C: MirrorCalls<L> + Drop, H> {
     ghost even: { IsEven (C.shape mirror.now) pass.now.parts.items },
 }
 
-impl<'a, L: LegPart, C: MirrorCalls<L> + Drop, H: Drop> MirrorTarget<'a, L, C, H> {
+impl<'a, L: LegPart, J: Naming, C: MirrorCalls<L, J> + Drop, H: Drop> MirrorTarget<'a, L, J, C, H> {
     /// The mirror through this pass; none where the pass is of another shape. Zeroes end before
     /// their next region once `is_gone`. `hang_up` is dropped with the target.
     pub fn new(
         mirror: &'a C,
-        pass: &'a mut Pass<L>,
+        pass: &'a mut Pass<L, J>,
         is_gone: Option<&'a AtomicBool>,
         hang_up: H,
-    ) -> Option<MirrorTarget<'a, L, C, H>>
+    ) -> Option<MirrorTarget<'a, L, J, C, H>>
         ensures some { IsSome result ↔ IsEven (C.shape mirror.now) pass.old.parts.items }
         ensures mirror { IfSome result (λ target. target.mirror.now ≡ mirror.now) }
         ensures pass { IfSome result (λ target. target.pass.now ≡ pass.old) }
@@ -50,7 +50,7 @@ impl<'a, L: LegPart, C: MirrorCalls<L> + Drop, H: Drop> MirrorTarget<'a, L, C, H
     }
 }
 
-impl<'a, L: LegPart, C: MirrorCalls<L> + Drop, H> MirrorTarget<'a, L, C, H> {
+impl<'a, L: LegPart, J: Naming, C: MirrorCalls<L, J> + Drop, H> MirrorTarget<'a, L, J, C, H> {
     /// How the mirror's blocks lie in its stripes.
     pub fn layout(&self) -> &Shape
         ensures { result.now ≡ C.shape self.now.mirror.now }
@@ -71,7 +71,8 @@ impl<'a, L: LegPart, C: MirrorCalls<L> + Drop, H> MirrorTarget<'a, L, C, H> {
     }
 }
 
-impl<'a, L: LegPart, C: MirrorCalls<L> + Drop, H> Target for MirrorTarget<'a, L, C, H> {
+impl<'a, L: LegPart, J: Naming, C: MirrorCalls<L, J> + Drop, H> Target
+    for MirrorTarget<'a, L, J, C, H> {
     ghost size = { λ target. 512 * (C.shape target.mirror.now).blocks };
 
     ghost follows = { λ old calls new. Leads (leg_type L.model L.honest)

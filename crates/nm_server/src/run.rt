@@ -9,7 +9,7 @@ use nm_connections::{Listener, ServingState, SessionRules, Shared, listen, liste
 use nm_control::LegRenewer;
 use nm_geometry::{MOST_LEGS, Shape};
 use nm_leg_files::{FileMirror, Leg, LegFiles, LegMaker, LegPlace, LegRules, OpensLegs};
-use nm_mirror::Pass;
+use nm_mirror::{Naming, Pass};
 use nm_reports::{LogLines, Metrics, Port, StartFault};
 use nm_starts::{
     check_added, check_files, check_from, check_moved, check_shrink, reply_bytes_of, settle_place,
@@ -19,6 +19,7 @@ use nm_system::{Limits, take_standard_streams};
 use std::alloc::Global;
 use std::fs::File;
 use std::io::Write;
+use std::marker::Brand;
 use std::net::{Net, TcpListener, TcpStream};
 use std::random::RandomSource;
 use std::rt::Files;
@@ -84,7 +85,7 @@ fn maker_of<'x>(
 }
 
 // How many of its stripes have stopped.
-fn count_stopped<R: Wait>(rt: &R, mirror: &FileMirror) -> u32 {
+fn count_stopped<R: Wait, J: Naming>(rt: &R, mirror: &FileMirror<J>) -> u32 {
     let mut stopped = 0u32;
     for stripe in 0..mirror.shape().stripes {
         if mirror.has_stopped(rt, stripe) {
@@ -96,10 +97,10 @@ fn count_stopped<R: Wait>(rt: &R, mirror: &FileMirror) -> u32 {
 
 // Ends the mirror, and tells how many entries the history of each stripe has had where that is
 // asked for.
-fn close<O: Write>(
+fn close<O: Write, J: Naming>(
     alloc: Global,
-    mirror: FileMirror,
-    passes: Vec<Pass<Leg>>,
+    mirror: FileMirror<J>,
+    passes: Vec<Pass<Leg, J>>,
     is_verbose: bool,
     out: &mut O,
 ) -> Result<(), StartFault> {
@@ -164,10 +165,10 @@ fn state_of<R: Threads + Wait + Sync + Clock>(
 }
 
 // Ends the mirror once it is served no more, and tells how many of its stripes have stopped.
-fn end<O: Write>(
+fn end<O: Write, J: Naming>(
     alloc: Global,
-    mirror: FileMirror,
-    passes: Vec<Pass<Leg>>,
+    mirror: FileMirror<J>,
+    passes: Vec<Pass<Leg, J>>,
     stopped: u32,
     is_verbose: bool,
     out: &mut O,
@@ -182,15 +183,15 @@ fn end<O: Write>(
 
 // Serves a mirror until a `quit`, beside what is at hand for it, and copies its legs meanwhile. The
 // copier's pass comes back.
-fn work<'x, R, P: OpensLegs + Sync>(
+fn work<'x, R, P: OpensLegs + Sync, J: Naming + Send + Sync>(
     rt: &R,
     opener: &P,
     settings: &Settings<'_>,
     shared: &'x Shared<'x>,
-    export: &ServedExport<'_, '_>,
-    passes: &mut [Pass<Leg>],
-    (copying, own): (Copying, &Equipment),
-) -> Result<Pass<Leg>, StartFault>
+    export: &ServedExport<'_, '_, J>,
+    passes: &mut [Pass<Leg, J>],
+    (copying, own): (Copying<J>, &Equipment),
+) -> Result<Pass<Leg, J>, StartFault>
 where
     R: Threads + Wait + Sync + Copy + Clock + Net<Listener = TcpListener, Stream = TcpStream>,
 {
@@ -204,12 +205,12 @@ where
 }
 
 // Serves the mirror that was opened until a `quit`, and ends it.
-fn serve<'s, R, P: OpensLegs + Sync, O: Write>(
+fn serve<'s, R, P: OpensLegs + Sync, O: Write, J: Naming + Send + Sync>(
     rt: &R,
     opener: &P,
     settings: &Settings<'_>,
     named: &ExportName<'_>,
-    opened: Opened,
+    opened: Opened<J>,
     shared: &'s Shared<'s>,
     out: &mut O,
 ) -> Result<(), StartFault>
@@ -259,7 +260,7 @@ fn ready_state<R: Threads + Wait + Sync + Copy + Send + Clock + 'static>(
 }
 
 // Opens what the settings ask for, and serves it until a `quit`.
-fn open_and_serve<R, P: OpensLegs + Sync, O: Write>(
+fn open_and_serve<J: Naming + Send + Sync, R, P: OpensLegs + Sync, O: Write>(
     rt: &R,
     alloc: Global,
     opener: &P,
@@ -286,7 +287,7 @@ where
     let control = listen_beside(rt, alloc, listening, &clients)?;
     // Whatever may be refused is, before a superblock is made.
     let state = ready_state(rt, alloc, settings, limits, &files)?;
-    let opened = open(rt, alloc, settings, files, &control.listener, lines)?;
+    let opened: Opened<J> = open(rt, alloc, settings, files, &control.listener, lines)?;
     warn_if_open(rt, alloc, &control.listener, listening.control, lines);
     clients.tell(out, "listening on");
     control.tell(out, "control on");
@@ -319,5 +320,5 @@ where
     let _streams = take_standard_streams(rt, alloc).ok_or(StartFault::NoStandardStreams)?;
     settle_place(rt, settings);
     sort_legs(rt, alloc, settings, lines)?;
-    open_and_serve(rt, alloc, opener, &*settings, limits, out, lines)
+    open_and_serve::<Brand, R, P, O>(rt, alloc, opener, &*settings, limits, out, lines)
 }

@@ -6,7 +6,7 @@ use nm_connections::Shared;
 use nm_control::{Controlled, CopiedMirror, Copier, LegRenewer, resynchronise, serve_control};
 use nm_lanes::NoGate;
 use nm_leg_files::{Leg, LegMaker, OpensLegs};
-use nm_mirror::Pass;
+use nm_mirror::{Naming, Pass};
 use nm_reports::StartFault;
 use std::net::{Net, TcpListener, TcpStream};
 use std::sync::Wait;
@@ -16,26 +16,26 @@ use std::thread::Threads;
 use std::time::Clock;
 
 /// Who copies legs, and its pass.
-pub type Copying = (Copier, Pass<Leg>);
+pub type Copying<J> = (Copier, Pass<Leg, J>);
 
 /// What the threads of a server have in common: what sessions serve, the control port changes, and
 /// the copier copies.
 #[derive(Drop)]
-pub struct Server<'x, 'p, O: OpensLegs> {
-    export: &'x ServedExport<'x, 'x>,
-    controlled: Controlled<'x, Leg, NoGate, LegRenewer<'p, O>, LegMaker<'p>>,
-    copied: CopiedMirror<'x, Leg, NoGate>,
+pub struct Server<'x, 'p, O: OpensLegs, J: Naming> {
+    export: &'x ServedExport<'x, 'x, J>,
+    controlled: Controlled<'x, Leg, NoGate, J, LegRenewer<'p, O>, LegMaker<'p>>,
+    copied: CopiedMirror<'x, Leg, NoGate, J>,
 }
 
-impl<'x, 'p, O: OpensLegs + Sync> Server<'x, 'p, O> {
+impl<'x, 'p, O: OpensLegs + Sync, J: Naming + Send + Sync> Server<'x, 'p, O, J> {
     /// A server of this export, whose legs are opened anew and made by these.
     pub fn new(
         shared: &'x Shared<'x>,
-        export: &'x ServedExport<'x, 'x>,
+        export: &'x ServedExport<'x, 'x, J>,
         own: &'x Equipment,
         legs: &'x LegRenewer<'p, O>,
         maker: &'x LegMaker<'p>,
-    ) -> Server<'x, 'p, O> {
+    ) -> Server<'x, 'p, O, J> {
         let (mirror, orders, state) = (export.mirror, &own.orders, shared.state);
         let controlled = Controlled {
             mirror,
@@ -62,7 +62,7 @@ impl<'x, 'p, O: OpensLegs + Sync> Server<'x, 'p, O> {
 
     // Serves clients until the control port has heard `quit` and the last session has ended. False
     // where a thread could not be started.
-    fn serve_sessions<R>(&self, rt: &R, passes: &mut [Pass<Leg>]) -> bool
+    fn serve_sessions<R>(&self, rt: &R, passes: &mut [Pass<Leg, J>]) -> bool
     where
         R: Threads + Wait + Sync + Copy + Clock,
     {
@@ -85,7 +85,7 @@ impl<'x, 'p, O: OpensLegs + Sync> Server<'x, 'p, O> {
 
     // Serves clients as above, while a thread of each leg but the first syncs its file when that is
     // asked for. Where a thread cannot be started, who asks does so.
-    fn serve_syncing<R>(&self, rt: &R, passes: &mut [Pass<Leg>]) -> bool
+    fn serve_syncing<R>(&self, rt: &R, passes: &mut [Pass<Leg, J>]) -> bool
     where
         R: Threads + Wait + Sync + Copy + Clock,
     {
@@ -104,7 +104,7 @@ impl<'x, 'p, O: OpensLegs + Sync> Server<'x, 'p, O> {
 
     // Serves the control port and sessions, until the last of these has ended. False where a thread
     // could not be started.
-    fn serve_both<R>(&self, rt: &R, passes: &mut [Pass<Leg>]) -> bool
+    fn serve_both<R>(&self, rt: &R, passes: &mut [Pass<Leg, J>]) -> bool
     where
         R: Threads + Wait + Sync + Copy + Clock + Net<Listener = TcpListener, Stream = TcpStream>,
     {
@@ -124,7 +124,7 @@ impl<'x, 'p, O: OpensLegs + Sync> Server<'x, 'p, O> {
     }
 
     // Copies legs until all sessions have ended, and gives the pass back.
-    fn copy<R: Wait + Clock>(&self, rt: &R, (copier, own): Copying) -> Pass<Leg> {
+    fn copy<R: Wait + Clock>(&self, rt: &R, (copier, own): Copying<J>) -> Pass<Leg, J> {
         let (mut own, opener) = (own, self.controlled.legs.opener());
         resynchronise(rt, opener, copier, &self.copied, &mut own);
         own
@@ -135,9 +135,9 @@ impl<'x, 'p, O: OpensLegs + Sync> Server<'x, 'p, O> {
     fn serve_copying<R>(
         &self,
         rt: &R,
-        passes: &mut [Pass<Leg>],
-        copying: Copying,
-    ) -> Option<Pass<Leg>>
+        passes: &mut [Pass<Leg, J>],
+        copying: Copying<J>,
+    ) -> Option<Pass<Leg, J>>
     where
         R: Threads + Wait + Sync + Copy + Clock + Net<Listener = TcpListener, Stream = TcpStream>,
     {
@@ -173,10 +173,10 @@ impl<'x, 'p, O: OpensLegs + Sync> Server<'x, 'p, O> {
     fn serve_saving<R>(
         &self,
         rt: &R,
-        passes: &mut [Pass<Leg>],
-        copying: Copying,
+        passes: &mut [Pass<Leg, J>],
+        copying: Copying<J>,
         saver: &Saver,
-    ) -> Option<Pass<Leg>>
+    ) -> Option<Pass<Leg, J>>
     where
         R: Threads + Wait + Sync + Copy + Clock + Net<Listener = TcpListener, Stream = TcpStream>,
     {
@@ -205,10 +205,10 @@ impl<'x, 'p, O: OpensLegs + Sync> Server<'x, 'p, O> {
     pub fn serve<R>(
         &self,
         rt: &R,
-        passes: &mut [Pass<Leg>],
-        copying: Copying,
+        passes: &mut [Pass<Leg, J>],
+        copying: Copying<J>,
         saver: &Option<Saver>,
-    ) -> Result<Pass<Leg>, StartFault>
+    ) -> Result<Pass<Leg, J>, StartFault>
     where
         R: Threads + Wait + Sync + Copy + Clock + Net<Listener = TcpListener, Stream = TcpStream>,
     {

@@ -15,7 +15,7 @@ use nm_connections::{
 };
 use nm_leg::LegPart;
 use nm_leg_files::{FileMirror, Leg, LegSyncs};
-use nm_mirror::Pass;
+use nm_mirror::{Naming, Pass};
 use nm_replies::ReplyWriter;
 use nm_reports::Incident;
 use nm_session::{Limit, ServeFault, Served, SessionCore};
@@ -75,11 +75,11 @@ impl<'a> ExportName<'a> {
 
 /// What sessions serve.
 #[derive(Drop)]
-pub struct ServedExport<'x, 'n> {
+pub struct ServedExport<'x, 'n, J: Naming> {
     /// The export as each session is told of it.
     pub named: &'x ExportName<'n>,
     /// The mirror behind it.
-    pub mirror: &'x FileMirror,
+    pub mirror: &'x FileMirror<J>,
     /// Who syncs its legs' files ahead of a flush.
     pub syncs: &'x LegSyncs,
 }
@@ -143,12 +143,12 @@ fn negotiate_in_time<R: Wait + Clock>(
 // asks for nothing more, ends the read under way.
 //
 // A pass of another shape, which the mirror itself never makes, is told as memory that is refused.
-fn targets_of<'a, L: LegPart, C: MirrorCalls<L> + Drop>(
+fn targets_of<'a, L: LegPart, J: Naming, C: MirrorCalls<L, J> + Drop>(
     alloc: Global,
     mirror: &'a C,
-    passes: &'a mut [Pass<L>],
+    passes: &'a mut [Pass<L, J>],
     client: &'a ClientStream,
-) -> Result<Vec<MirrorTarget<'a, L, C, HangUp<'a>>>, ServeFault>
+) -> Result<Vec<MirrorTarget<'a, L, J, C, HangUp<'a>>>, ServeFault>
     ensures mirror { IfOk result (λ targets.
         All (λ target. target.mirror.now ≡ mirror.now) targets.items) }
     ensures passes { IfOk result (λ targets.
@@ -172,12 +172,17 @@ fn targets_of<'a, L: LegPart, C: MirrorCalls<L> + Drop>(
 }
 
 // Answers a client's requests until it asks for nothing more.
-fn answer_requests<R, L: LegPart + Send, C: MirrorCalls<L> + Sync + Drop>(
+fn answer_requests<
+    R,
+    L: LegPart + Send,
+    J: Naming + Send + Sync,
+    C: MirrorCalls<L, J> + Sync + Drop,
+>(
     rt: &R,
     alloc: Global,
     client: &ClientStream,
     mirror: &C,
-    passes: &mut [Pass<L>],
+    passes: &mut [Pass<L, J>],
     core: SessionCore,
     places: &SessionPlaces,
 ) -> Result<Served, ServeFault>
@@ -210,11 +215,11 @@ fn core_of(alloc: Global, named: &ExportName<'_>, blocks: u64, bytes: usize) -> 
 }
 
 // Serves one client from its greeting to its end.
-fn serve_client<R: Threads + Wait + Sync + Copy + Clock>(
+fn serve_client<R: Threads + Wait + Sync + Copy + Clock, J: Naming + Send + Sync>(
     rt: &R,
     client: &ClientStream,
-    export: &ServedExport<'_, '_>,
-    passes: &mut [Pass<Leg>],
+    export: &ServedExport<'_, '_, J>,
+    passes: &mut [Pass<Leg, J>],
     shared: &Shared<'_>,
     place: usize,
 ) -> Result<SessionEnd, ServeFault> {
@@ -248,12 +253,12 @@ fn serve_client<R: Threads + Wait + Sync + Copy + Clock>(
 /// closed. Their requests take the passes, as many at once as there are.
 ///
 /// A client's place is free again before its connection is closed.
-pub fn serve_place<R>(
+pub fn serve_place<R, J: Naming + Send + Sync>(
     rt: &R,
     shared: &Shared<'_>,
     number: usize,
-    export: &ServedExport<'_, '_>,
-    passes: &mut [Pass<Leg>],
+    export: &ServedExport<'_, '_, J>,
+    passes: &mut [Pass<Leg, J>],
 )
 where
     R: Threads + Wait + Sync + Copy + Clock,

@@ -25,7 +25,7 @@ use nm_gate::GatedStripe;
 use nm_geometry::Shape;
 use nm_lanes::NoGate;
 use nm_leg_files::{BytesRead, FileMirror, Leg, LegFiles};
-use nm_mirror::{InitialSync, Mirror};
+use nm_mirror::{InitialSync, Mirror, Naming};
 use nm_reports::{Comparison, LogLines, StartFault, tell_progress};
 use nm_stripe::Stripe;
 use nm_superblock::Superblock;
@@ -41,19 +41,19 @@ use std::time::Clock;
 
 /// The mirror, and what saves its superblocks, if it has some.
 #[derive(Drop)]
-pub struct OpenedMirror {
+pub struct OpenedMirror<J: Naming> {
     /// The mirror.
-    pub mirror: FileMirror,
+    pub mirror: FileMirror<J>,
     /// Its superblocks.
     pub superblocks: Option<Superblocks>,
 }
 
 // The mirror of these stripes.
-fn mirror_of(
+fn mirror_of<J: Naming>(
     alloc: Global,
     shape: Shape,
     stripes: Vec<GatedStripe<Leg>>,
-) -> Result<FileMirror, StartFault>
+) -> Result<FileMirror<J>, StartFault>
     requires { AreStripesOf shape (map (λ own. own.stripe) stripes.items) }
     ensures { IfOk result (λ mirror. mirror.shape ≡ shape) }
 {
@@ -65,14 +65,14 @@ fn mirror_of(
 
 // The mirror over the legs' files, which its stripes share: they are compared, since all of them
 // were changed.
-fn open_changed<R: Files<File = File>>(
+fn open_changed<R: Files<File = File>, J: Naming>(
     rt: &R,
     alloc: Global,
     mirror: &MirrorSettings<'_>,
     files: &LegFiles,
     read: &BytesRead,
     kept: KeptImage,
-) -> Result<OpenedMirror, StartFault> {
+) -> Result<OpenedMirror<J>, StartFault> {
     let shape = shape_by(mirror, files, &kept.image)?;
     let (gated, superblocks) = gate_compared(rt, alloc, mirror.policy, files, &shape, read, kept)?;
     Ok(OpenedMirror {
@@ -82,11 +82,11 @@ fn open_changed<R: Files<File = File>>(
 }
 
 // The mirror of these stripes, without superblocks.
-fn open_unkept(
+fn open_unkept<J: Naming>(
     alloc: Global,
     shape: Shape,
     stripes: Vec<Stripe<Leg>>,
-) -> Result<OpenedMirror, StartFault>
+) -> Result<OpenedMirror<J>, StartFault>
     requires { AreStripesOf shape stripes.items }
 {
     let open = open_gates(alloc, &shape, stripes)?;
@@ -97,13 +97,13 @@ fn open_unkept(
 }
 
 // The mirror of these stripes, which gets its first superblocks.
-fn open_first<R: Files<File = File>>(
+fn open_first<R: Files<File = File>, J: Naming>(
     rt: &R,
     alloc: Global,
     shape: Shape,
     stripes: Vec<Stripe<Leg>>,
     kept: KeptImage,
-) -> Result<OpenedMirror, StartFault>
+) -> Result<OpenedMirror<J>, StartFault>
     requires { AreStripesOf shape stripes.items }
 {
     let (gated, superblocks) = kept.gate(rt, alloc, &shape, stripes)?;
@@ -115,14 +115,14 @@ fn open_first<R: Files<File = File>>(
 
 // The mirror over the legs' files, which its stripes share, as legs stand that no superblock tells
 // of, or that are compared. It gets its first superblocks, if they are kept.
-fn open_mirror<R: Files<File = File>>(
+fn open_mirror<R: Files<File = File>, J: Naming>(
     rt: &R,
     alloc: Global,
     settings: &Settings<'_>,
     files: &LegFiles,
     read: &BytesRead,
     kept: Option<KeptImage>,
-) -> Result<OpenedMirror, StartFault> {
+) -> Result<OpenedMirror<J>, StartFault> {
     let kept = match kept {
         Some(kept) if kept.is_compared => {
             return open_changed(rt, alloc, &settings.mirror, files, read, kept);
@@ -149,7 +149,7 @@ fn none_read(alloc: Global) -> Result<BytesRead, StartFault> {
 
 // Opens the mirror, while one thread tells how far the comparison of its legs is, and another one
 // answers. Where no thread can be had nothing is told.
-fn open_watched<R, M: Meanwhile + Sync>(
+fn open_watched<R, M: Meanwhile + Sync, J: Naming>(
     rt: &R,
     alloc: Global,
     settings: &Settings<'_>,
@@ -157,7 +157,7 @@ fn open_watched<R, M: Meanwhile + Sync>(
     meanwhile: &M,
     lines: &LogLines,
     kept: Option<KeptImage>,
-) -> Result<OpenedMirror, StartFault>
+) -> Result<OpenedMirror<J>, StartFault>
 where
     R: Threads + Wait + Sync + Clock + Files<File = File>,
 {
@@ -184,13 +184,13 @@ where
 }
 
 // The mirror that this image opens.
-fn open_image<R: Files<File = File>>(
+fn open_image<R: Files<File = File>, J: Naming>(
     rt: &R,
     alloc: Global,
     mirror: &MirrorSettings<'_>,
     files: &LegFiles,
     kept: KeptImage,
-) -> Result<OpenedMirror, StartFault> {
+) -> Result<OpenedMirror<J>, StartFault> {
     let read = none_read(alloc)?;
     let shape = shape_by(mirror, files, &kept.image)?;
     let (gated, superblocks) = gate_by_image(rt, alloc, mirror.policy, files, &shape, &read, kept)?;
@@ -314,14 +314,14 @@ where
 }
 
 // The mirror that superblocks open, or that gets its first ones.
-fn open_kept<R, M: Meanwhile + Sync>(
+fn open_kept<R, M: Meanwhile + Sync, J: Naming>(
     rt: &R,
     alloc: Global,
     settings: &Settings<'_>,
     files: &mut LegFiles,
     meanwhile: &M,
     lines: &LogLines,
-) -> Result<OpenedMirror, StartFault>
+) -> Result<OpenedMirror<J>, StartFault>
 where
     R: Threads + Wait + Sync + Clock + RandomSource + Files<File = File>,
 {
@@ -351,14 +351,14 @@ where
 
 /// Opens the mirror that the settings ask for: by superblocks, where they are kept. Who answers
 /// meanwhile does so while its legs are compared.
-pub fn open_asked_for<R, M: Meanwhile + Sync>(
+pub fn open_asked_for<R, M: Meanwhile + Sync, J: Naming>(
     rt: &R,
     alloc: Global,
     settings: &Settings<'_>,
     files: &mut LegFiles,
     meanwhile: &M,
     lines: &LogLines,
-) -> Result<OpenedMirror, StartFault>
+) -> Result<OpenedMirror<J>, StartFault>
 where
     R: Threads + Wait + Sync + Clock + RandomSource + Files<File = File>,
 {

@@ -1,8 +1,10 @@
 -- Each turn is one push more.
-use Rattle.std.proofs.Common.{◌≤◌}
+use Rattle.std.proofs.Common.{◌≡◌, ◌≤◌}
 use Rattle.nm_leg.specs.Leg.{leg_type}
+use Rattle.nm_mirror.specs.Holding.{with_stripe}
 use Rattle.nm_mirror.proofs.ClaimingLemmas.{HasPushed}
 use Rattle.nm_mirror.proofs.claiming.push_all.Given as goal
 
 abbrev pub invariant-pushes : goal.invariant-pushes
-invariant-pushes g l = HasPushed (leg_type g.L.LegPart.model g.L.LegPart.honest) l.ticket l.turn l.fn.stripe l.stripe × (l.turn ≤ 8)
+invariant-pushes g l = HasPushed (leg_type g.L.LegPart.model g.L.LegPart.honest) l.ticket l.turn l.fn.held.gated.stripe l.held.gated.stripe × (l.turn ≤ 8)
+    × (l.held ≡ with_stripe l.held.gated.stripe l.fn.held)

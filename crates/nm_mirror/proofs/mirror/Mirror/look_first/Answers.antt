@@ -4,7 +4,7 @@ use Rattle.nm_mirror.proofs.mirror.Mirror.look_first.Goals as goal
 
 pub returns-clause-looks : goal.returns-clause-looks
 returns-clause-looks g c = record {
-  stripes = (c.deref_mut.result.now.gated.stripe, c.look_first.new.stripe);
+  stripes = (c.deref_mut.result.now.gated.stripe, c.look_first.new.self.gated.stripe);
   number = search (rules, c.hold-lent.ensures, c.deref.ensures, c.place-place.ensures);
   place_is = search (rules, c.deref.ensures, c.place-place.ensures, c.deref_mut.ensures.value);
   begins = c.look_first.ensures.begins;

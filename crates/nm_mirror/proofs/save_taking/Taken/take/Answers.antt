@@ -1,15 +1,15 @@
 -- What is taken is what the gate answers, by the stripe's marks.
 use Rattle.std.proofs.Common.{refl, set}
-use Rattle.nm_mirror.proofs.TakingLemmas.{claims-are, takes}
+use Rattle.nm_mirror.proofs.TakingLemmas.{takes}
 use Rattle.nm_mirror.proofs.save_taking.Taken.take.Goals as goal
 
 -- src/save_taking.rt:87:5
 pub returns-clause-takes : goal.returns-clause-takes
 returns-clause-takes g c =
-    let held = c.args.gated.now in
+    let held = c.args.held.now.gated in
     let claims = c.begin_save-claims in
     takes held c.args.whole.now c.marks.result.now c.number-number.result c.called_whole.result claims.result c.args.self.now
     (record { claims = set c.args.self.now.claims c.number-number.result c.called_whole.result; spans = c.join_marks.new.spans; out = c.kept_out-self.result })
     c.marks.ensures.marks c.marks.ensures.few c.join_marks.ensures c.number-number.ensures
-    (claims-are held.stripe held.durable claims.new.self.durable c.join_marks.new.spans claims.result claims.ensures.none claims.ensures.claims)
+    claims.ensures.claims
     c.called_whole.ensures refl c.kept_out-self.ensures

@@ -1,0 +1,241 @@
+//! The steps on the stripe behind a lock that no pass counts.
+ghost use Rattle.std.specs.Prelude.{◌≡◌, ◌<◌, ◌≤◌, ℕ, length, IfErr, IfOk, IfSome, IsTrue, OnErr};
+ghost use Rattle.std.specs.Prelude.{OnOk, Some, false, slice_index_or};
+ghost use Rattle.nm_gate.specs.Changes.{Leads};
+ghost use Rattle.nm_gate.specs.Claims.{HasMarks, marks_of};
+ghost use Rattle.nm_gate.specs.Gate.{IsAllowed};
+ghost use Rattle.nm_gate.specs.Returning.{suspects};
+ghost use Rattle.nm_leg.specs.Leg.{leg_type};
+ghost use Rattle.nm_mirror.specs.Asks.{LetsPass};
+ghost use Rattle.nm_mirror.specs.Holding.{with_gated, with_legs, with_stripe};
+ghost use Rattle.nm_mirror.specs.Saving.{BeginsAt, EndsAt, FailsAt, claims_in};
+ghost use Rattle.nm_mirror.specs.declared.ask.Ask.TheVariants as ask;
+ghost use Rattle.nm_rules.specs.Attach.{Replaces, Returns, attach_cause};
+ghost use Rattle.nm_rules.specs.Failing.{fail_cause};
+ghost use Rattle.nm_rules.specs.Invariant.{HasLegs};
+ghost use Rattle.nm_rules.specs.Promote.{promote_cause};
+ghost use Rattle.nm_rules.specs.RunClaim.{ClaimsRun, claim_run_cause};
+ghost use Rattle.nm_rules.specs.RunPush.{push_run_cause};
+ghost use Rattle.nm_rules.specs.State.{left};
+ghost use Rattle.nm_stripe.specs.Copy.{Copies, RefusesCopy};
+ghost use Rattle.nm_stripe.specs.Fail.{Fails};
+ghost use Rattle.nm_stripe.specs.Push.{Reaches};
+ghost use Rattle.nm_stripe.specs.Sync.{EndsJoining, FlushesLeg, RefusesSync};
+ghost use Rattle.nm_stripe.specs.declared.step.Step.TheVariants as step;
+ghost use Rattle.nm_verify.specs.Agreement.{Agrees};
+ghost use Rattle.nm_verify.specs.Looks.{Begins, Sees};
+
+use crate::held::Held;
+use crate::save_order::SaveOrder;
+use nm_book::Naming;
+use nm_gate::LegClaims;
+use nm_leg::LegPart;
+use nm_stripe::{Copying, Failing, Promotion, Reach, Refusal, Syncing, Written};
+use nm_verify::{Agreed, Begun, Cursor, Half, Seen, look_first, look_second, look_without};
+
+/// Each is one step of the stripe or of its gate, with its answer, or a look, and changes nothing
+/// else that is held. Together with the steps of a pass and with `reopen` they are all that changes
+/// a stripe of a mirror: nobody else is lent one.
+impl<L: LegPart, J: Naming> Held<L, J> {
+    /// Pushes a write whose call does not do so.
+    pub(crate) fn push_owed(&mut self, ticket: u64, leg: u8) -> Result<Reach, Refusal>
+        requires leg { leg < length self.old.gated.stripe.legs }
+        ensures ok { IfOk result (Reaches (leg_type L.model L.honest) self.old.gated.stripe
+            self.new.gated.stripe ticket leg) }
+        ensures cause { IfErr result (λ refusal.
+            push_run_cause self.old.gated.stripe ticket leg ≡ Some refusal) }
+        ensures stays { OnErr result (self.new ≡ self.old) }
+        ensures others { self.new ≡ with_stripe self.new.gated.stripe self.old }
+    {
+        self.gated.stripe.push(ticket, leg)
+    }
+
+    /// Claims a write whose call has ended.
+    pub(crate) fn claim_ended(&mut self, ticket: u64) -> Result<Written<L>, Refusal>
+        requires saved { LetsPass self.old.gated.durable self.old.gated.stripe ask.Answer }
+        ensures ok { IfOk result (ClaimsRun self.old.gated.stripe self.new.gated.stripe ticket) }
+        ensures cause { IfErr result (λ refusal.
+            claim_run_cause self.old.gated.stripe ticket ≡ Some refusal) }
+        ensures stays { OnErr result (self.new ≡ self.old) }
+        ensures others { self.new ≡ with_stripe self.new.gated.stripe self.old }
+    {
+        self.gated.stripe.claim(ticket)
+    }
+
+    /// Flushes a leg.
+    pub(crate) fn flush_leg(&mut self, leg: u8) -> Result<Syncing, Refusal>
+        requires leg { leg < length self.old.gated.stripe.legs }
+        ensures ok { IfOk result (FlushesLeg (leg_type L.model L.honest) self.old.gated.stripe
+            self.new.gated.stripe leg) }
+        ensures refused { IfErr result (RefusesSync (leg_type L.model L.honest)
+            self.old.gated.stripe self.new.gated.stripe leg) }
+        ensures others { self.new ≡ with_stripe self.new.gated.stripe self.old }
+    {
+        self.gated.stripe.flush(leg)
+    }
+
+    /// Does a step of the copy to a leg.
+    pub(crate) fn copy_leg(&mut self, leg: u8, most: u64, from: u64) -> Result<Copying, Refusal>
+        requires leg { leg < length self.old.gated.stripe.legs }
+        requires some { 0 < most }
+        ensures ok { IfOk result (Copies (leg_type L.model L.honest) self.old.gated.stripe
+            self.new.gated.stripe leg most from) }
+        ensures refused { IfErr result (RefusesCopy (leg_type L.model L.honest)
+            self.old.gated.stripe self.new.gated.stripe leg most from) }
+        ensures others { self.new ≡ with_stripe self.new.gated.stripe self.old }
+    {
+        self.gated.stripe.copy(leg, most, from)
+    }
+
+    /// Calls a leg in sync, or takes it out.
+    pub(crate) fn promote_leg(&mut self, leg: u8) -> Result<Promotion, Refusal>
+        requires leg { leg < length self.old.gated.stripe.legs }
+        ensures ok { IfOk result (EndsJoining (leg_type L.model L.honest) self.old.gated.stripe
+            self.new.gated.stripe leg) }
+        ensures cause { IfErr result (λ refusal.
+            promote_cause self.old.gated.stripe leg ≡ Some refusal) }
+        ensures stays { OnErr result (self.new ≡ self.old) }
+        ensures others { self.new ≡ with_stripe self.new.gated.stripe self.old }
+    {
+        self.gated.stripe.promote(leg)
+    }
+
+    /// Takes a leg out.
+    pub(crate) fn fail_leg(&mut self, leg: u8) -> Result<Failing, Refusal>
+        requires leg { leg < length self.old.gated.stripe.legs }
+        ensures ok { IfOk result (Fails self.old.gated.stripe self.new.gated.stripe leg) }
+        ensures cause { IfErr result (λ refusal.
+            fail_cause self.old.gated.stripe leg ≡ Some refusal) }
+        ensures stays { OnErr result (self.new ≡ self.old) }
+        ensures others { self.new ≡ with_stripe self.new.gated.stripe self.old }
+    {
+        self.gated.stripe.fail(leg)
+    }
+
+    /// Lets a leg join again, as one that may have lost something.
+    pub(crate) fn return_leg(&mut self, leg: u8) -> Result<u64, Refusal>
+        requires allowed { IsAllowed self.old.gated.durable self.old.gated.stripe
+            (step.Attach leg) }
+        requires leg { leg < length self.old.gated.stripe.legs }
+        ensures ok { OnOk result (Returns L.model self.old.gated.stripe self.new.gated.stripe leg
+            (suspects leg self.old.gated.durable)) }
+        ensures left { IfOk result (λ blocks. blocks ≡ left leg self.new.gated.stripe) }
+        ensures cause { IfErr result (λ refusal.
+            attach_cause self.old.gated.stripe leg ≡ Some refusal) }
+        ensures stays { OnErr result (self.new.gated.stripe ≡ self.old.gated.stripe) }
+        ensures others { self.new ≡ with_stripe self.new.gated.stripe self.old }
+    {
+        self.gated.return_leg(leg)
+    }
+
+    /// Puts another leg in the place of one that is out.
+    pub(crate) fn replace_leg(&mut self, leg: u8, part: L) -> Result<u64, (Refusal, L)>
+        requires passes { LetsPass self.old.gated.durable self.old.gated.stripe (ask.Replace leg) }
+        requires leg { leg < length self.old.gated.stripe.legs }
+        requires length { length (L.model part).contents ≡ self.old.gated.stripe.place.blocks }
+        ensures ok { OnOk result (Replaces self.old.gated.stripe self.new.gated.stripe leg part) }
+        ensures left { IfOk result (λ blocks. blocks ≡ left leg self.new.gated.stripe) }
+        ensures cause { IfErr result (λ refused.
+            attach_cause self.old.gated.stripe leg ≡ Some refused.0) }
+        ensures stays { OnErr result (self.new ≡ self.old) }
+        ensures others { self.new ≡ with_stripe self.new.gated.stripe self.old }
+    {
+        self.gated.stripe.replace(leg, part)
+    }
+
+    /// Begins a save with these marks: what the next superblock says of the legs.
+    pub(crate) fn begin_save(&mut self, marked: &[bool]) -> LegClaims
+        requires marks { HasMarks self.old.gated.durable marked.now }
+        ensures claims { result
+            ≡ claims_in self.old.gated.stripe self.old.gated.durable marked.now }
+        ensures begins { BeginsAt marked.now self.old.gated self.new.gated }
+        ensures moves { HasLegs L.model self.old.gated.stripe → Leads (leg_type L.model L.honest)
+            self.old.gated.stripe self.old.gated.durable
+            self.new.gated.stripe self.new.gated.durable }
+        ensures others { self.new ≡ with_gated self.new.gated self.old }
+    {
+        self.gated.begin_save(marked)
+    }
+
+    /// Ends a save: this order's superblock is the durable one.
+    pub(crate) fn end_save(&mut self, order: &SaveOrder)
+        requires { self.old.gated.stripe.place.stripe < 64 }
+        ensures ends { EndsAt order.now self.old.gated self.new.gated }
+        ensures moves { HasLegs L.model self.old.gated.stripe → Leads (leg_type L.model L.honest)
+            self.old.gated.stripe self.old.gated.durable
+            self.new.gated.stripe self.new.gated.durable }
+        ensures others { self.new ≡ with_gated self.new.gated self.old }
+    {
+        let claims = order.claims_on(self.gated.stripe.number());
+        self.gated.end_save(claims, &order.spans);
+    }
+
+    /// Says that a save could not be done.
+    pub(crate) fn fail_save(&mut self)
+        ensures fails { FailsAt self.old.gated self.new.gated }
+        ensures moves { Leads (leg_type L.model L.honest)
+            self.old.gated.stripe self.old.gated.durable
+            self.new.gated.stripe self.new.gated.durable }
+        ensures others { self.new ≡ with_gated self.new.gated self.old }
+    {
+        self.gated.fail_save();
+    }
+
+    /// Clears all marks, where the gate can settle. Whether nothing is marked any more.
+    pub(crate) fn settle(&mut self) -> bool
+        ensures settled { IsTrue result → (span : ℕ)
+            → slice_index_or (marks_of self.new.gated.durable) span false ≡ false }
+        ensures stays { result ≡ false → self.new.gated.durable ≡ self.old.gated.durable }
+        ensures others { self.new ≡ with_gated self.new.gated self.old }
+    {
+        self.gated.settle()
+    }
+
+    /// Looks at the first leg there, which is compared with another.
+    pub(crate) fn look_first(&mut self, at: Cursor, held: &mut [u8]) -> Begun
+        requires room { length held.old ≡ 65536 }
+        ensures begins { Begins (leg_type L.model L.honest) at
+            (self.old.gated.stripe, self.new.gated.stripe) held.new result }
+        ensures room { length held.new ≡ 65536 }
+        ensures others { self.new ≡ with_legs self.new.gated.stripe.legs self.old }
+    {
+        look_first(&mut self.gated.stripe, at, held)
+    }
+
+    /// Looks at the second leg there.
+    pub(crate) fn look_second(
+        &mut self,
+        at: Cursor,
+        half: Half,
+        held: &[u8],
+        found: &mut [u8],
+    ) -> Seen
+        requires held { length held.now ≡ 65536 }
+        requires room { length found.old ≡ 65536 }
+        ensures sees { Sees (leg_type L.model L.honest) (at, half)
+            (self.old.gated.stripe, self.new.gated.stripe) held.now found.new result }
+        ensures room { length found.new ≡ 65536 }
+        ensures others { self.new ≡ with_legs self.new.gated.stripe.legs self.old }
+    {
+        look_second(&mut self.gated.stripe, at, half, held, found)
+    }
+
+    /// Looks at what all legs in sync but this one hold of the run there.
+    pub(crate) fn look_without(
+        &mut self,
+        at: Cursor,
+        leg: u8,
+        held: &mut [u8],
+        found: &mut [u8],
+    ) -> Option<Agreed>
+        requires held { length held.old ≡ 65536 }
+        requires room { length found.old ≡ 65536 }
+        ensures agrees { IfSome result (Agrees (leg_type L.model L.honest) (at, leg)
+            self.old.gated.stripe held.new) }
+        ensures most { IfSome result (λ agreed. (0 < agreed.count) × (agreed.count ≤ 128)) }
+        ensures long { (length held.new ≡ 65536) × (length found.new ≡ 65536) }
+        ensures others { self.new ≡ with_legs self.new.gated.stripe.legs self.old }
+    {
+        look_without(&mut self.gated.stripe, at, leg, held, found)
+    }
+}
