@@ -1,13 +1,52 @@
 -- The layouts of the headers: their lengths, and that bytes begin with at most one header of a kind.
-use Rattle.std.proofs.Common.{◌≡◌, ℕ, List, ◌++◌, length, take, refl, ap, ◌∙◌, length-append, lit<}
-use Rattle.std.proofs.lemmas.List.{append_assoc, take_at}
+use Rattle.std.proofs.Common.{◌≡◌, ℕ, ◌^◌, ◌<◌, ◌≤◌, List, [], ◌∷◌, ◌++◌, length, take, drop, refl, sym, ap, ◌∙◌, arith, length-append, lit<}
+use Rattle.std.specs.Prelude.{◌≢◌}
+use Rattle.std.proofs.lemmas.List.{append_assoc, take_at, take-append-drop}
 use Rattle.nm_wire.specs.Number.{be, option_magic, option_reply_magic, request_magic, simple_reply_magic}
 use Rattle.nm_wire.specs.Layout.{FitsOptionHead, FitsOptionReply, FitsRequestHead, FitsSimpleReply, option_head_bytes, option_reply_bytes, request_head_bytes, simple_reply_bytes}
 use Rattle.nm_wire.specs.declared.option_head.OptionHead.{OptionHead}
 use Rattle.nm_wire.specs.declared.option_reply.OptionReply.{OptionReply}
 use Rattle.nm_wire.specs.declared.request_head.RequestHead.{RequestHead}
 use Rattle.nm_wire.specs.declared.simple_reply.SimpleReply.{SimpleReply}
-use Rattle.nm_wire.proofs.Numbers.{be-unique, length-be}
+use Rattle.nm_wire.proofs.Numbers.{be-unique, be-injective, length-be}
+
+-- bytes that begin with another number do not begin with the magic number
+pub other-magic : (width read magic : ℕ) (bytes : List ℕ) → read < 256 ^ width → magic < 256 ^ width
+    → take width bytes ≡ be width read → read ≢ magic → take width bytes ≢ be width magic
+other-magic width read magic bytes fits magic_fits begins other same =
+    other (be-injective width read magic fits magic_fits (sym begins ∙ same))
+
+-- bytes are no shorter than what they begin with
+pub no-shorter : (bytes first rest : List ℕ) → bytes ≡ first ++ rest → length first ≤ length bytes
+no-shorter bytes first rest same = omega (arith, ap length same, length-append first rest)
+
+-- bytes are their first ones, and then the rest
+pub first-ones : (size : ℕ) (bytes first : List ℕ) → take size bytes ≡ first → bytes ≡ first ++ drop size bytes
+first-ones size bytes first is =
+    sym (take-append-drop size bytes) ∙ ap (λ (part : List ℕ). part ++ drop size bytes) is
+
+-- a header's numbers one after the other, each in so many bytes, and what follows them
+abbrev fields_before : {H : Type 0} → List (ℕ × (H → ℕ)) → H → List ℕ → List ℕ
+fields_before [] head rest = rest
+fields_before (field ∷ fields) head rest = be field.0 (field.1 head) ++ fields_before fields head rest
+
+-- each of them fits its bytes
+abbrev FitFields : {H : Type 0} → List (ℕ × (H → ℕ)) → H → Type 0
+FitFields [] head = Unit {0}
+FitFields (field ∷ fields) head = (field.1 head < 256 ^ field.0) × FitFields fields head
+
+-- two headers are one where they have the same numbers
+abbrev AreDetermined : {H : Type 0} → List (ℕ × (H → ℕ)) → H → H → Type 0
+AreDetermined [] g h = g ≡ h
+AreDetermined (field ∷ fields) g h = field.1 g ≡ field.1 h → AreDetermined fields g h
+
+-- bytes begin with such a header in one way at most
+fields-unique : {H : Type 0} (fields : List (ℕ × (H → ℕ))) (g h : H) (r s : List ℕ) → AreDetermined fields g h
+    → FitFields fields g → FitFields fields h → fields_before fields g r ≡ fields_before fields h s → (g ≡ h) × (r ≡ s)
+fields-unique [] g h r s determined g_fits h_fits same = (determined, same)
+fields-unique (field ∷ fields) g h r s determined g_fits h_fits same =
+    let first = be-unique field.0 (field.1 g) (field.1 h) _ _ g_fits.0 h_fits.0 same in
+    fields-unique fields g h r s (determined first.0) g_fits.1 h_fits.1 first.1
 
 -- an option's header has 16 bytes
 pub length-option_head_bytes : (head : OptionHead) → length (option_head_bytes head) ≡ 16
@@ -49,90 +88,88 @@ pub simple_reply_bytes-magic : (reply : SimpleReply) (rest : List ℕ) → take 
 unfolding simple_reply_bytes
 simple_reply_bytes-magic reply rest = simp append_assoc (take_at (be 4 simple_reply_magic) _ 4 (length-be 4 simple_reply_magic))
 
+-- the numbers of an option's header
+abbrev option_head_fields : List (ℕ × (OptionHead → ℕ))
+option_head_fields = (8, (λ h. option_magic)) ∷ (4, (λ h. h.option)) ∷ (4, (λ h. h.length)) ∷ []
+
 -- an option's header with these numbers
 abbrev OptionHead-of : (option length : ℕ) → OptionHead
 OptionHead-of option length = record { option = option; length = length }
-
--- it is determined by its numbers
-OptionHead-same : (g h : OptionHead) → g.option ≡ h.option → g.length ≡ h.length → g ≡ h
-OptionHead-same g h option length = ap (λ (x : ℕ). OptionHead-of x g.length) option ∙ ap (λ (x : ℕ). OptionHead-of h.option x) length
 
 -- bytes begin with an option's header in one way at most
 pub option_head_bytes-unique : (g h : OptionHead) (r s : List ℕ) → FitsOptionHead g → FitsOptionHead h
     → option_head_bytes g ++ r ≡ option_head_bytes h ++ s → (g ≡ h) × (r ≡ s)
 unfolding option_head_bytes
 option_head_bytes-unique g h r s g_fits h_fits same =
-    let apart : be 8 option_magic ++ (be 4 g.option ++ (be 4 g.length ++ r))
-    ≡ be 8 option_magic ++ (be 4 h.option ++ (be 4 h.length ++ s)) =
-    simp append_assoc at same in
-    let magic = be-unique 8 option_magic option_magic _ _ (lit< tt) (lit< tt) apart in
-    let option = be-unique 4 g.option h.option _ _ g_fits.option h_fits.option magic.1 in
-    let length = be-unique 4 g.length h.length _ _ g_fits.length h_fits.length option.1 in
-    (OptionHead-same g h option.0 length.0, length.1)
+    fields-unique option_head_fields g h r s
+    (λ magic option length.
+    let same : OptionHead-of g.option g.length
+    ≡ OptionHead-of h.option h.length = rw (option, length) refl in same)
+    (lit< tt, (g_fits.option, (g_fits.length, tt)))
+    (lit< tt, (h_fits.option, (h_fits.length, tt)))
+    (simp append_assoc at same)
+
+-- the numbers of the header of a reply to an option
+abbrev option_reply_fields : List (ℕ × (OptionReply → ℕ))
+option_reply_fields =
+    (8, (λ h. option_reply_magic)) ∷ (4, (λ h. h.option)) ∷ (4, (λ h. h.kind)) ∷ (4, (λ h. h.length)) ∷ []
 
 -- the header of a reply to an option with these numbers
 abbrev OptionReply-of : (option kind length : ℕ) → OptionReply
 OptionReply-of option kind length = record { option = option; kind = kind; length = length }
-
--- it is determined by its numbers
-OptionReply-same : (g h : OptionReply) → g.option ≡ h.option → g.kind ≡ h.kind → g.length ≡ h.length → g ≡ h
-OptionReply-same g h option kind length = ap (λ (x : ℕ). OptionReply-of x g.kind g.length) option ∙ ap (λ (x : ℕ). OptionReply-of h.option x g.length) kind ∙ ap (λ (x : ℕ). OptionReply-of h.option h.kind x) length
 
 -- bytes begin with the header of a reply to an option in one way at most
 pub option_reply_bytes-unique : (g h : OptionReply) (r s : List ℕ) → FitsOptionReply g → FitsOptionReply h
     → option_reply_bytes g ++ r ≡ option_reply_bytes h ++ s → (g ≡ h) × (r ≡ s)
 unfolding option_reply_bytes
 option_reply_bytes-unique g h r s g_fits h_fits same =
-    let apart : be 8 option_reply_magic ++ (be 4 g.option ++ (be 4 g.kind ++ (be 4 g.length ++ r)))
-    ≡ be 8 option_reply_magic ++ (be 4 h.option ++ (be 4 h.kind ++ (be 4 h.length ++ s))) =
-    simp append_assoc at same in
-    let magic = be-unique 8 option_reply_magic option_reply_magic _ _ (lit< tt) (lit< tt) apart in
-    let option = be-unique 4 g.option h.option _ _ g_fits.option h_fits.option magic.1 in
-    let kind = be-unique 4 g.kind h.kind _ _ g_fits.kind h_fits.kind option.1 in
-    let length = be-unique 4 g.length h.length _ _ g_fits.length h_fits.length kind.1 in
-    (OptionReply-same g h option.0 kind.0 length.0, length.1)
+    fields-unique option_reply_fields g h r s
+    (λ magic option kind length.
+    let same : OptionReply-of g.option g.kind g.length
+    ≡ OptionReply-of h.option h.kind h.length = rw (option, kind, length) refl in same)
+    (lit< tt, (g_fits.option, (g_fits.kind, (g_fits.length, tt))))
+    (lit< tt, (h_fits.option, (h_fits.kind, (h_fits.length, tt))))
+    (simp append_assoc at same)
+
+-- the numbers of a request's header
+abbrev request_head_fields : List (ℕ × (RequestHead → ℕ))
+request_head_fields =
+    (4, (λ h. request_magic)) ∷ (2, (λ h. h.flags.0)) ∷ (2, (λ h. h.kind))
+    ∷ (8, (λ h. h.cookie)) ∷ (8, (λ h. h.offset)) ∷ (4, (λ h. h.length)) ∷ []
 
 -- a request's header with these numbers
 abbrev RequestHead-of : (flags kind cookie offset length : ℕ) → RequestHead
 RequestHead-of flags kind cookie offset length = record { flags = record { 0 = flags }; kind = kind; cookie = cookie; offset = offset; length = length }
-
--- it is determined by its numbers
-RequestHead-same : (g h : RequestHead) → g.flags.0 ≡ h.flags.0 → g.kind ≡ h.kind → g.cookie ≡ h.cookie → g.offset ≡ h.offset → g.length ≡ h.length → g ≡ h
-RequestHead-same g h flags kind cookie offset length = ap (λ (x : ℕ). RequestHead-of x g.kind g.cookie g.offset g.length) flags ∙ ap (λ (x : ℕ). RequestHead-of h.flags.0 x g.cookie g.offset g.length) kind ∙ ap (λ (x : ℕ). RequestHead-of h.flags.0 h.kind x g.offset g.length) cookie ∙ ap (λ (x : ℕ). RequestHead-of h.flags.0 h.kind h.cookie x g.length) offset ∙ ap (λ (x : ℕ). RequestHead-of h.flags.0 h.kind h.cookie h.offset x) length
 
 -- bytes begin with a request's header in one way at most
 pub request_head_bytes-unique : (g h : RequestHead) (r s : List ℕ) → FitsRequestHead g → FitsRequestHead h
     → request_head_bytes g ++ r ≡ request_head_bytes h ++ s → (g ≡ h) × (r ≡ s)
 unfolding request_head_bytes
 request_head_bytes-unique g h r s g_fits h_fits same =
-    let apart : be 4 request_magic ++ (be 2 g.flags.0 ++ (be 2 g.kind ++ (be 8 g.cookie ++ (be 8 g.offset ++ (be 4 g.length ++ r)))))
-    ≡ be 4 request_magic ++ (be 2 h.flags.0 ++ (be 2 h.kind ++ (be 8 h.cookie ++ (be 8 h.offset ++ (be 4 h.length ++ s))))) =
-    simp append_assoc at same in
-    let magic = be-unique 4 request_magic request_magic _ _ (lit< tt) (lit< tt) apart in
-    let flags = be-unique 2 g.flags.0 h.flags.0 _ _ g_fits.flags h_fits.flags magic.1 in
-    let kind = be-unique 2 g.kind h.kind _ _ g_fits.kind h_fits.kind flags.1 in
-    let cookie = be-unique 8 g.cookie h.cookie _ _ g_fits.cookie h_fits.cookie kind.1 in
-    let offset = be-unique 8 g.offset h.offset _ _ g_fits.offset h_fits.offset cookie.1 in
-    let length = be-unique 4 g.length h.length _ _ g_fits.length h_fits.length offset.1 in
-    (RequestHead-same g h flags.0 kind.0 cookie.0 offset.0 length.0, length.1)
+    fields-unique request_head_fields g h r s
+    (λ magic flags kind cookie offset length. let same : RequestHead-of g.flags.0 g.kind g.cookie g.offset g.length
+    ≡ RequestHead-of h.flags.0 h.kind h.cookie h.offset h.length = rw (flags, kind, cookie, offset, length) refl in same)
+    (lit< tt, (g_fits.flags, (g_fits.kind, (g_fits.cookie, (g_fits.offset, (g_fits.length, tt))))))
+    (lit< tt, (h_fits.flags, (h_fits.kind, (h_fits.cookie, (h_fits.offset, (h_fits.length, tt))))))
+    (simp append_assoc at same)
+
+-- the numbers of a simple reply's header
+abbrev simple_reply_fields : List (ℕ × (SimpleReply → ℕ))
+simple_reply_fields = (4, (λ h. simple_reply_magic)) ∷ (4, (λ h. h.error)) ∷ (8, (λ h. h.cookie)) ∷ []
 
 -- a simple reply's header with these numbers
 abbrev SimpleReply-of : (error cookie : ℕ) → SimpleReply
 SimpleReply-of error cookie = record { error = error; cookie = cookie }
-
--- it is determined by its numbers
-SimpleReply-same : (g h : SimpleReply) → g.error ≡ h.error → g.cookie ≡ h.cookie → g ≡ h
-SimpleReply-same g h error cookie = ap (λ (x : ℕ). SimpleReply-of x g.cookie) error ∙ ap (λ (x : ℕ). SimpleReply-of h.error x) cookie
 
 -- bytes begin with a simple reply's header in one way at most
 pub simple_reply_bytes-unique : (g h : SimpleReply) (r s : List ℕ) → FitsSimpleReply g → FitsSimpleReply h
     → simple_reply_bytes g ++ r ≡ simple_reply_bytes h ++ s → (g ≡ h) × (r ≡ s)
 unfolding simple_reply_bytes
 simple_reply_bytes-unique g h r s g_fits h_fits same =
-    let apart : be 4 simple_reply_magic ++ (be 4 g.error ++ (be 8 g.cookie ++ r))
-    ≡ be 4 simple_reply_magic ++ (be 4 h.error ++ (be 8 h.cookie ++ s)) =
-    simp append_assoc at same in
-    let magic = be-unique 4 simple_reply_magic simple_reply_magic _ _ (lit< tt) (lit< tt) apart in
-    let error = be-unique 4 g.error h.error _ _ g_fits.error h_fits.error magic.1 in
-    let cookie = be-unique 8 g.cookie h.cookie _ _ g_fits.cookie h_fits.cookie error.1 in
-    (SimpleReply-same g h error.0 cookie.0, cookie.1)
+    fields-unique simple_reply_fields g h r s
+    (λ magic error cookie.
+    let same : SimpleReply-of g.error g.cookie
+    ≡ SimpleReply-of h.error h.cookie = rw (error, cookie) refl in same)
+    (lit< tt, (g_fits.error, (g_fits.cookie, tt)))
+    (lit< tt, (h_fits.error, (h_fits.cookie, tt)))
+    (simp append_assoc at same)

@@ -1,9 +1,11 @@
 -- One call more writes on to the end of its region.
-use Rattle.std.proofs.Common.{◌≡◌, ℕ, ◌+◌, ◌-◌, length, take, drop, ap, sym, ◌∙◌, subst, arith, Ok}
+use Rattle.std.proofs.Common.{◌≡◌, false, ℕ, ◌+◌, ◌-◌, length, take, drop, ap, sym, ◌∙◌, subst, arith, Ok}
 use Rattle.std.proofs.lemmas.List.{length-take-le, length-drop}
 use Rattle.nm_file_leg.specs.Medium.{Kept}
+use Rattle.nm_file_leg.specs.Runs.{WritesRun, run_places}
 use Rattle.nm_file_leg.proofs.StepLemmas.{one-call, keeps-step, writes-step, writes-ends}
 use Rattle.nm_file_leg.proofs.runs.write_run.Goals as goal
+use Rattle.nm_file_leg.proofs.runs.write_run.Goals.{After-write_stretch}
 
 pub write_stretch-requires : goal.write_stretch-requires
 write_stretch-requires g c =
@@ -39,8 +41,10 @@ loop-done-preserved g c =
       writes = writes-step _ c.args.stripe p c.args.at done many so_far.whole call.blocks call.short _ _ _ _ xs c.requires.shape c.requires.stripe call.some call.fits is so_far.writes writes;
     }
 
-pub returns-in_default : goal.returns-in_default
-returns-in_default g c =
+-- the call that wrote less, or failed, ends the run
+ends : (g : _) (c : After-write_stretch g) → WritesRun g.M.Medium.honest false (run_places c.args.stripe c.args.shape.now c.args.at) c.args.bytes.now
+    (g.M.Medium.held c.args.medium.now) (g.M.Medium.held c.write_stretch.new.medium)
+ends g c =
     let p = c.args.shape.now in
     let done = c.loop-done.done in
     let many = c.bytes_in_region-many.result in
@@ -52,15 +56,8 @@ returns-in_default g c =
     let writes = rw span at placed in
     writes-ends _ c.args.stripe p c.args.at done many so_far.whole call.blocks call.short _ _ _ _ xs c.requires.shape c.requires.stripe call.some call.fits so_far.writes writes
 
+pub returns-in_default : goal.returns-in_default
+returns-in_default g c = ends g (goal.at.returns-in_default g c).After-write_stretch
+
 pub returns-in_default-2 : goal.returns-in_default-2
-returns-in_default-2 g c =
-    let p = c.args.shape.now in
-    let done = c.loop-done.done in
-    let many = c.bytes_in_region-many.result in
-    let xs = c.args.bytes.now in
-    let so_far = c.loop-done.invariant in
-    let call = one-call c.args.at done many p.region xs c.requires.shape.some_region c.loop-done-test.true so_far.whole c.requires.run.whole c.bytes_in_region-many.ensures in
-    let span : done + many - done ≡ many = omega arith in
-    let placed = rw c.first_byte-first.ensures at c.write_stretch.ensures in
-    let writes = rw span at placed in
-    writes-ends _ c.args.stripe p c.args.at done many so_far.whole call.blocks call.short _ _ _ _ xs c.requires.shape c.requires.stripe call.some call.fits so_far.writes writes
+returns-in_default-2 g c = ends g (goal.at.returns-in_default-2 g c).After-write_stretch

@@ -1,39 +1,35 @@
 -- The numbers that were read follow one another; any header that the bytes begin with is this one.
-use Rattle.std.proofs.Common.{◌++◌, length, take, drop, Ok, refl, sym, ap, ◌∙◌, arith, length-append, lit<}
-use Rattle.std.proofs.lemmas.List.{take-append-drop}
+use Rattle.std.proofs.Common.{take, Ok, refl, sym, ap, ◌∙◌, arith, lit<}
+use Rattle.nm_wire.specs.Number.{simple_reply_magic}
 use Rattle.nm_wire.specs.Layout.{FitsSimpleReply, simple_reply_bytes}
 use Rattle.nm_wire.specs.declared.simple_reply.SimpleReply.{SimpleReply}
-use Rattle.nm_wire.proofs.Numbers.{be-injective}
-use Rattle.nm_wire.proofs.Heads.{length-simple_reply_bytes, simple_reply_bytes-magic, simple_reply_bytes-unique}
+use Rattle.nm_wire.proofs.Heads.{no-shorter, other-magic, first-ones, length-simple_reply_bytes, simple_reply_bytes-magic, simple_reply_bytes-unique}
 use Rattle.nm_wire.proofs.simple_reply.SimpleReply.get.Goals as goal
 
 pub returns-then-bytes-lt16-clause-reads_back : goal.returns-then-bytes-lt16-clause-reads_back
 returns-then-bytes-lt16-clause-reads_back c reply rest fits same =
-    let whole = ap length same ∙ length-append (simple_reply_bytes reply) rest in
-    absurd (omega (arith, whole, length-simple_reply_bytes reply))
+    absurd (omega (arith, no-shorter _ (simple_reply_bytes reply) rest same, length-simple_reply_bytes reply))
 
 pub returns-then-get_u32-ne-SIMPLE_REPLY_MAGIC-clause-reads_back :
     goal.returns-then-get_u32-ne-SIMPLE_REPLY_MAGIC-clause-reads_back
 returns-then-get_u32-ne-SIMPLE_REPLY_MAGIC-clause-reads_back c reply rest fits same =
-    let magic = sym c.get_u32.ensures ∙ ap (take 4) same ∙ simple_reply_bytes-magic reply rest in
-    absurd (c.if-get_u32-ne-SIMPLE_REPLY_MAGIC.true (be-injective 4 _ _ (omega arith) (lit< tt) magic))
+    absurd (other-magic 4 c.get_u32.result simple_reply_magic c.args.bytes.now (omega arith) (lit< tt)
+    c.get_u32.ensures c.if-get_u32-ne-SIMPLE_REPLY_MAGIC.true (ap (take 4) same ∙ simple_reply_bytes-magic reply rest))
 
 pub returns-then-get_u32-ne-SIMPLE_REPLY_MAGIC-clause-magic :
     goal.returns-then-get_u32-ne-SIMPLE_REPLY_MAGIC-clause-magic
 returns-then-get_u32-ne-SIMPLE_REPLY_MAGIC-clause-magic c = (
   (λ refused. (
     c.if-bytes-lt16.false,
-    (λ magic. c.if-get_u32-ne-SIMPLE_REPLY_MAGIC.true
-        (be-injective 4 _ _ (omega arith) (lit< tt) (sym c.get_u32.ensures ∙ magic))),
+    other-magic 4 c.get_u32.result simple_reply_magic c.args.bytes.now
+        (omega arith) (lit< tt) c.get_u32.ensures c.if-get_u32-ne-SIMPLE_REPLY_MAGIC.true,
   )),
   (λ cause. refl),
 )
 
 pub returns-clause-ok : goal.returns-clause-ok
 unfolding simple_reply_bytes
-returns-clause-ok c =
-    sym (take-append-drop 16 c.args.bytes.now)
-    ∙ ap (λ first. first ++ drop 16 c.args.bytes.now)
+returns-clause-ok c = first-ones 16 c.args.bytes.now _
     (rw (c.get_u64.ensures, c.get_u32-2.ensures, c.get_u32.ensures, c.if-get_u32-ne-SIMPLE_REPLY_MAGIC.false) refl)
 
 pub returns-clause-reads_back : goal.returns-clause-reads_back
