@@ -1,5 +1,5 @@
-ghost use Rattle.std.specs.Prelude.{ℕ, List, IfSome, IsNone};
-ghost use Rattle.nm_reports.specs.Address.{IsAtPath};
+ghost use Rattle.std.specs.Prelude.{◌≡◌, ℕ, List, IfSome, IsNone};
+ghost use Rattle.nm_reports.specs.Address.{IsAtPath, address_of};
 
 use nm_commands::ListenSettings;
 use std::fmt;
@@ -24,7 +24,9 @@ pub enum Address<'a> {
 
 impl<'a> Address<'a> {
     /// Where they connect: for clients a port that was named stands in place of the address.
-    pub fn of(port: Port, listening: &ListenSettings<'a>) -> Address<'a> {
+    pub fn of(port: Port, listening: &ListenSettings<'a>) -> Address<'a>
+        ensures { result ≡ address_of port listening.now }
+    {
         match (port, listening.port) {
             (Port::Clients, Some(number)) => Address::LocalPort(number),
             (Port::Clients, None) => Address::Named(listening.address),

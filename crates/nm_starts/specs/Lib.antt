@@ -5,7 +5,9 @@ pub mod ImageShape
 pub mod Kept
 pub mod NewestStart
 pub mod OpenedOn
+pub mod RenewedIds
 pub mod Replies
+pub mod StartImage
 pub mod Starting
 pub mod SuperblockChoice
 pub mod TwoPlaces

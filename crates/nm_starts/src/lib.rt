@@ -25,6 +25,7 @@ mod moving;
 mod needs;
 mod no_superblocks;
 mod place_checks;
+mod renewed_ids;
 mod start_image;
 mod starting;
 mod superblock_choice;

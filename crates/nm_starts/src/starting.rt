@@ -41,8 +41,8 @@ pub fn named_master(opening: &OpeningSettings<'_>) -> Option<u8>
     }
 }
 
-// The leg that was named as the master, and leg 0 where none was.
-fn master_or_first(named: Option<u8>) -> u8
+/// The leg that was named as the master, and leg 0 where none was.
+pub fn master_or_first(named: Option<u8>) -> u8
     ensures { result ≡ master_or_first named }
 {
     named.unwrap_or(0)
