@@ -5,6 +5,7 @@ use crate::copier::Copier;
 use nm_lanes::Gate;
 use nm_leg::LegPart;
 use nm_mirror::{Naming, Pass};
+use nm_reports::microseconds_since;
 use nm_service::{CopyTurn, rest_after};
 use std::sync::Wait;
 use std::thread;
@@ -93,16 +94,5 @@ impl CopyPacer {
         };
         self.calls = calls;
         self.rest = rest_after(copied.orders.rate(), &turn);
-    }
-}
-
-// How many microseconds have passed since this moment: none, where the clock cannot be read.
-fn microseconds_since<R: Clock>(rt: &R, begun: &Option<Instant>) -> u64 {
-    match begun {
-        Some(begun) => {
-            let passed = begun.elapsed(rt).unwrap_or(Duration::ZERO);
-            u64::try_from(passed.as_micros()).unwrap_or(u64::MAX)
-        }
-        None => 0,
     }
 }

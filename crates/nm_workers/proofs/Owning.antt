@@ -19,7 +19,7 @@ use Rattle.nm_wire.specs.Export.{size_of}
 use Rattle.nm_workers.specs.declared.reader.Reader.{Reader}
 use Rattle.nm_workers.specs.Moving.{owner_state, Attends, BreaksOff, EndsAs}
 use Rattle.nm_workers.specs.Reading.{HasRead, ReadsFurther}
-use Rattle.nm_workers.specs.Serving.{io, Ends, Breaks, IsServed, IsBrokenOff}
+use Rattle.nm_workers.specs.Serving.{io, Ends, Breaks, EndsOrBreaks, IsServed, IsBrokenOff}
 use Rattle.nm_workers.proofs.ReadPieces.{reads_first, has_read}
 use Rattle.nm_workers.proofs.RequestLemmas.{export_stays}
 use Rattle.nm_workers.proofs.WholeSessions.{ends_there, breaks_there, breaks_at_once, whole, broken}
@@ -38,27 +38,22 @@ module _ (F : Task → TaskResult → Type 0) where
       -- a session that came to its end, or broke off
       pub owned : (result : Result Served ServeFault)
           → EndsAs F result (owner_state core first output) (owner_state last heard after)
-          → IfOk result (λ served. Ends F served core (io (remaining reader.source) output) after)
-          × IfErr result (λ found. Breaks F found core (io (remaining reader.source) output) after)
-      owned (Ok served) attends = (
-        ends_there (remaining reader.source) (remaining back.source) output after (pieces_by back.pieces)
-            core last heard read_all begins served
-            (subst (λ (f : List (Message CalledValue)). Attends F served (owner_state core f output) (owner_state last heard after)) unheard attends),
-        tt,
-      )
-      owned (Err found) breaks = (
-        tt,
-        breaks_there (remaining reader.source) (remaining back.source) output after (pieces_by back.pieces)
-            core last heard read_all begins found
-            (subst (λ (f : List (Message CalledValue)). BreaksOff F found (owner_state core f output) (owner_state last heard after)) unheard breaks),
-      )
+          → EndsOrBreaks F result core (io (remaining reader.source) output) after
+      owned (Ok served) attends =
+          ends_there (remaining reader.source) (remaining back.source) output after (pieces_by back.pieces)
+          core last heard read_all begins served
+          (subst (λ (f : List (Message CalledValue)). Attends F served (owner_state core f output) (owner_state last heard after)) unheard attends)
+      owned (Err found) breaks =
+          breaks_there (remaining reader.source) (remaining back.source) output after (pieces_by back.pieces)
+          core last heard read_all begins found
+          (subst (λ (f : List (Message CalledValue)). BreaksOff F found (owner_state core f output) (owner_state last heard after)) unheard breaks)
 
   -- a session that broke off before anything happened
   module _ {O : Type 0} (contents : O → Option (List ℕ)) (core : Session) (bytes : Option (List ℕ))
       (sent sender : ReplyWriter O) (result : Result Served ServeFault) where
-    pub failed_err : result ≡ Err fault.Memory → sent ≡ sender
-        → IfErr result (λ found. Breaks F found core (io bytes (contents (device_of sender))) (contents (device_of sent)))
-    failed_err is same = rw (is, same) (breaks_at_once core bytes (contents (device_of sender)))
+    pub failed : result ≡ Err fault.Memory → sent ≡ sender
+        → EndsOrBreaks F result core (io bytes (contents (device_of sender))) (contents (device_of sent))
+    failed is same = rw (is, same) (breaks_at_once core bytes (contents (device_of sender)))
 
 -- a target that has the bytes of the export has them still
 pub sizes_stay : {T : Type 0} (size : T → ℕ) (old new : Session) (events : List Event) (targets : List T)
@@ -68,14 +63,20 @@ sizes_stay size old new events targets runs large =
     subst (λ (export : Export). All (λ target. size_of export ≤ size target) targets)
     (sym (export_stays events old new runs)) large
 
-module _ {F : Task → TaskResult → Type 0} where
-  -- the session of a new core is a whole one
-  pub whole_at : SoFar → (served : Served) (export : Export) (core : Session) (bytes output written : Option (List ℕ))
-      → core ≡ session_of export (so_many 16) → Ends F served core (io bytes output) written → IsServed F served export (io bytes output) written
-  whole_at so_far served export core bytes output written is ends = whole so_far served export bytes output written
-      (subst (λ (c : Session). Ends F served c (io bytes output) written) is ends)
-
-  pub broken_at : SoFar → (found : ServeFault) (export : Export) (core : Session) (bytes output after : Option (List ℕ))
-      → core ≡ session_of export (so_many 16) → Breaks F found core (io bytes output) after → IsBrokenOff F found export (io bytes output) after
-  broken_at so_far found export core bytes output after is breaks = broken so_far found export bytes output after
-      (subst (λ (c : Session). Breaks F found c (io bytes output) after) is breaks)
+module _ (F : Task → TaskResult → Type 0) where
+  -- the session of a new core is a whole one, to its end or to a fault
+  pub whole_at : SoFar → (result : Result Served ServeFault) (export : Export) (core : Session)
+      (bytes output written : Option (List ℕ)) → core ≡ session_of export (so_many 16)
+      → EndsOrBreaks F result core (io bytes output) written
+      → IfOk result (λ served. IsServed F served export (io bytes output) written)
+      × IfErr result (λ found. IsBrokenOff F found export (io bytes output) written)
+  whole_at so_far (Ok served) export core bytes output written is ends = (
+    whole so_far served export bytes output written
+        (subst (λ (c : Session). Ends F served c (io bytes output) written) is ends),
+    tt,
+  )
+  whole_at so_far (Err found) export core bytes output written is breaks = (
+    tt,
+    broken so_far found export bytes output written
+        (subst (λ (c : Session). Breaks F found c (io bytes output) written) is breaks),
+  )

@@ -1,5 +1,5 @@
 -- What a session's threads did together, and what of it goes out.
-use Rattle.std.proofs.Common.{◌≡◌, ℕ, ◌+◌, List, [], ◌∷◌, ◌++◌, length, take, drop, Option, Result, Ok, Err, IfOk, IfErr, refl, sym, ap, ◌∙◌, subst, append_assoc, append-nil, take-append-drop, arith}
+use Rattle.std.proofs.Common.{◌≡◌, ℕ, ◌+◌, List, [], ◌∷◌, ◌++◌, length, take, drop, Option, Result, Ok, Err, refl, sym, ap, ◌∙◌, subst, append_assoc, append-nil, take-append-drop, arith}
 use Rattle.std.specs.Io.KnownBytes.{Appends, Consumes, IsAtEnd}
 use Rattle.std.proofs.KnownBytes.{Appends-trans, Appends-nil, Consumes-trans, Consumes-nil}
 use Rattle.nm_mailbox.specs.declared.message.Message.{Message}
@@ -28,22 +28,10 @@ use Rattle.nm_workers.specs.declared.round.ReadState.{ReadState}
 use Rattle.nm_workers.specs.Moving.{owner_state, Attends, BreaksOff, ComesTo, IsCause, IsKnown}
 use Rattle.nm_workers.specs.Pieces.{bytes_of, HasEnded}
 use Rattle.nm_workers.specs.Reading.{HasRead}
-use Rattle.nm_workers.specs.Serving.{Io, io, Goes, Ends, Breaks, IsServed, IsBrokenOff}
+use Rattle.nm_workers.specs.Serving.{Io, io, Goes, Ends, Breaks, EndsOrBreaks, IsServed, IsBrokenOff}
 use Rattle.nm_workers.specs.Results.{no_result}
 use Rattle.nm_workers.proofs.ResultRuns.{runs_with-append, runs_of, unanswered_with}
 use Rattle.nm_workers.proofs.Steps.{bytes-append, heard-append, cause_on}
-
--- what holds of a result's value, by what it gives
-pub if_ok : {A E : Type 0} (result : Result A E) (P Q : A → Type 0) → ((value : A) → P value → Q value)
-    → IfOk result P → IfOk result Q
-if_ok (Ok value) P Q gives holds = gives value holds
-if_ok (Err found) P Q gives holds = tt
-
--- and of its error
-pub if_err : {A E : Type 0} (result : Result A E) (P Q : E → Type 0) → ((found : E) → P found → Q found)
-    → IfErr result P → IfErr result Q
-if_err (Ok value) P Q gives holds = tt
-if_err (Err found) P Q gives holds = gives found holds
 
 module _ {F : Task → TaskResult → Type 0} where
   -- one part of a session after the other
@@ -104,6 +92,11 @@ module _ {F : Task → TaskResult → Type 0} where
         (sym (taken-append first.events second.events))
         (cause_on found (taken_bytes first.events) (taken_bytes second.events) second.written second.cause);
   }
+
+  pub ends_or_breaks_on : (result : Result Served ServeFault) (a b : Session) (u v : Io) (written : Option (List ℕ))
+      → Goes F a b u v → EndsOrBreaks F result b v written → EndsOrBreaks F result a u written
+  ends_or_breaks_on (Ok served) a b u v written first second = ends_on served a b u v written first second
+  ends_or_breaks_on (Err found) a b u v written first second = breaks_on found a b u v written first second
 
   -- a session that broke off before anything happened
   pub breaks_at_once : (core : Session) (bytes output : Option (List ℕ)) → Breaks F fault.Memory core (io bytes output) output

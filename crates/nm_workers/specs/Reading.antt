@@ -4,6 +4,7 @@ use Rattle.std.specs.Io.KnownBytes.{Consumes, IsAtEnd}
 use Rattle.nm_mailbox.specs.declared.message.Piece.{Piece}
 use Rattle.nm_mailbox.specs.declared.message.Piece.TheVariants.{Bytes, Ended, Failed}
 use Rattle.nm_mailbox.specs.Ends.{pieces_by, IsSameEnd}
+use Rattle.nm_session.specs.Session.{Session}
 use Rattle.nm_workers.specs.declared.read_by.ReadBy.{ReadBy}
 use Rattle.nm_workers.specs.declared.read_by.ReadBy.TheVariants as by
 use Rattle.nm_workers.specs.declared.reader.Reader.{Reader}
@@ -58,3 +59,8 @@ ReadsFurther remaining old new = ((input : Option (List ℕ))
 abbrev pub reader_of : {I M : Type 0} → ReadBy I M → Reader I M
 reader_of (by.Thread permits thread) = thread.promise.0.value
 reader_of (by.Owner reader) = reader
+
+-- no request is outstanding while the owner reads
+abbrev pub IsIdleForOwner : {I M : Type 0} → ReadBy I M → Session → Type 0
+IsIdleForOwner (by.Thread permits thread) core = Unit {0}
+IsIdleForOwner (by.Owner reader) core = core.outstanding ≡ []

@@ -1,6 +1,8 @@
 -- How a session over several targets is served, and what is known of it then.
 use Rattle.std.specs.Prelude.{◌≡◌, ℕ, List, [], ◌++◌, length, Option, Some, None}
+use Rattle.std.specs.Prelude.{Result, Ok, Err}
 use Rattle.std.specs.Io.KnownBytes.{Appends, Consumes}
+use Rattle.nm_replies.specs.Sending.{device_of}
 use Rattle.nm_wire.specs.declared.export.Export.{Export}
 use Rattle.nm_session.specs.declared.end.End.TheVariants as end
 use Rattle.nm_session.specs.declared.serve_fault.ServeFault.{ServeFault}
@@ -11,6 +13,7 @@ use Rattle.nm_session.specs.Event.{Event, fed_bytes, taken_bytes, messages}
 use Rattle.nm_session.specs.Serving.{IsEnd}
 use Rattle.nm_session.specs.Session.{Session, session_of, so_many}
 use Rattle.nm_session.specs.Text.{GoesOut}
+use Rattle.nm_workers.specs.declared.session.Finished.{Finished}
 use Rattle.nm_workers.specs.Moving.{IsCause}
 use Rattle.nm_workers.specs.Results.{RunsWith, no_result}
 
@@ -61,6 +64,18 @@ pub record Breaks (HasResult : Task → TaskResult → Type 0) (fault : ServeFau
   pub consumes : Consumes before.input unread (fed_bytes events ++ unfed)
   pub appends : Appends before.output after written
   pub cause : IsCause fault (taken_bytes events) written
+
+-- from this core on the session comes to its end, or a fault breaks it off
+abbrev pub EndsOrBreaks : (HasResult : Task → TaskResult → Type 0) → Result Served ServeFault
+    → (core : Session) → (before : Io) → (written : Option (List ℕ)) → Type 0
+EndsOrBreaks HasResult (Ok served) core before written = Ends HasResult served core before written
+EndsOrBreaks HasResult (Err fault) core before written = Breaks HasResult fault core before written
+
+-- so does a session that is over, where its writer's device holds what was written
+abbrev pub Finishes : {O : Type 0} → (HasResult : Task → TaskResult → Type 0)
+    → (O → Option (List ℕ)) → (core : Session) → (before : Io) → Finished O → Type 0
+Finishes HasResult contents core before finished =
+    EndsOrBreaks HasResult finished.result core before (contents (device_of finished.sender))
 
 -- the haggling leads to transmission, with no request outstanding, or to the session's end
 abbrev pub Negotiates : Option Served → (from to : Session) → (before after : Io) → Type 0

@@ -2,11 +2,11 @@
 //! messages; or the owner itself, while its client waits for each reply before it sends the next
 //! request. To hand such requests on and to wait for their results would take longer than to do
 //! them.
-ghost use Rattle.std.specs.Prelude.{◌≡◌, [], IfOk, IfErr};
+ghost use Rattle.std.specs.Prelude.{◌≡◌, IfOk, IfErr};
 ghost use Rattle.nm_session.specs.declared.serve_fault.ServeFault.TheVariants.{Memory};
 ghost use Rattle.nm_workers.specs.declared.round.ReadState.TheVariants.{Eof};
 ghost use Rattle.nm_workers.specs.Moving.{HasNoRequest};
-ghost use Rattle.nm_workers.specs.Reading.{ReadsFurther, reader_of};
+ghost use Rattle.nm_workers.specs.Reading.{IsIdleForOwner, ReadsFurther, reader_of};
 
 use crate::dispatcher::Dispatcher;
 use crate::permits::{PermitSender, ReadPermit};
@@ -79,7 +79,7 @@ pub(crate) fn into_reader<R: Threads, I: Read, M: Drop>(rt: &R, by: ReadBy<I, M>
 }
 
 // Permits the thread to read a piece, if one reads.
-pub(crate) fn permit_piece<R: Wait, C, I: Read, M: Drop>(
+pub(crate) fn permit_piece<R: Wait, C, I: BusyPoll, M: Drop>(
     rt: &R,
     alloc: Global,
     core: &SessionCore,
@@ -94,38 +94,8 @@ pub(crate) fn permit_piece<R: Wait, C, I: Read, M: Drop>(
     ensures reads { ReadsFurther I.remaining (reader_of by.old) (reader_of by.new) }
 {
     match by {
-        ReadBy::Thread(permits, _) => {
-            ask_for_piece(rt, alloc, core, why, state, dispatcher, permits)
-        }
+        ReadBy::Thread(_, _) => read_next(rt, alloc, core, why, state, dispatcher, by),
         ReadBy::Owner(_) => Ok(state),
-    }
-}
-
-// Gives the permit to read a piece where no whole request is there, no piece is still to come, and
-// the client's bytes have not ended.
-fn ask_for_piece<R: Wait, C>(
-    rt: &R,
-    alloc: Global,
-    core: &SessionCore,
-    why: NoRequest,
-    state: ReadState,
-    dispatcher: &mut Dispatcher<'_, C>,
-    permits: &mut PermitSender,
-) -> Result<ReadState, ServeFault>
-    requires why { HasNoRequest why core.now }
-    ensures ok { IfOk result (λ next. next ≡ Eof → state ≡ Eof) }
-    ensures memory { IfErr result (λ fault. fault ≡ Memory) }
-{
-    match ReadPermit::next(alloc, core, why, state, &mut dispatcher.buffer) {
-        Ok(Some(permit)) => {
-            if permits.send(rt, permit) {
-                Ok(ReadState::Pending)
-            } else {
-                Err(ServeFault::Memory)
-            }
-        }
-        Ok(None) => Ok(state),
-        Err(_) => Err(ServeFault::Memory),
     }
 }
 
@@ -147,36 +117,47 @@ pub(crate) fn read_piece_here<R: Wait, C, I: BusyPoll, M: Drop>(
 {
     match by {
         ReadBy::Thread(_, _) => Ok(state),
-        ReadBy::Owner(reader) => {
+        ReadBy::Owner(_) => {
             if !core.is_idle() {
                 return Ok(state);
             }
-            read_here(rt, alloc, core, why, state, reader, dispatcher)
+            read_next(rt, alloc, core, why, state, dispatcher, by)
         }
     }
 }
 
-// Reads a piece where no whole request is there and the client's bytes have not ended, and sends it
-// to the mailbox, where it is received next.
-fn read_here<R: Wait, I: BusyPoll, C, M: Drop>(
+// Where no whole request is there, no piece is still to come and the client's bytes have not ended:
+// gives the thread the permit to read a piece, or has the owner read one and send it to the
+// mailbox, where it is received next.
+fn read_next<R: Wait, C, I: BusyPoll, M: Drop>(
     rt: &R,
     alloc: Global,
     core: &SessionCore,
     why: NoRequest,
     state: ReadState,
-    reader: &mut Reader<I, M>,
     dispatcher: &mut Dispatcher<'_, C>,
+    by: &mut ReadBy<I, M>,
 ) -> Result<ReadState, ServeFault>
     requires why { HasNoRequest why core.now }
-    requires idle { core.now.outstanding ≡ [] }
+    requires idle { IsIdleForOwner by.old core.now }
     ensures ok { IfOk result (λ next. next ≡ Eof → state ≡ Eof) }
     ensures memory { IfErr result (λ fault. fault ≡ Memory) }
-    ensures reads { ReadsFurther I.remaining reader.old reader.new }
+    ensures reads { ReadsFurther I.remaining (reader_of by.old) (reader_of by.new) }
 {
     match ReadPermit::next(alloc, core, why, state, &mut dispatcher.buffer) {
         Ok(Some(permit)) => {
-            poll_and_read(rt, &mut dispatcher.spin_wait, reader, permit);
-            Ok(ReadState::Pending)
+            let is_taken = match by {
+                ReadBy::Thread(permits, _) => permits.send(rt, permit),
+                ReadBy::Owner(reader) => {
+                    poll_and_read(rt, &mut dispatcher.spin_wait, reader, permit);
+                    true
+                }
+            };
+            if is_taken {
+                Ok(ReadState::Pending)
+            } else {
+                Err(ServeFault::Memory)
+            }
         }
         Ok(None) => Ok(state),
         Err(_) => Err(ServeFault::Memory),

@@ -3,7 +3,7 @@ ghost use Rattle.std.specs.Prelude.{◌≡◌, ◌≤◌, [], All, IfOk, IfErr, 
 ghost use Rattle.nm_replies.specs.Sending.{device_of};
 ghost use Rattle.nm_wire.specs.Export.{size_of};
 ghost use Rattle.nm_workers.specs.Results.{IsResult};
-ghost use Rattle.nm_workers.specs.Serving.{io, Ends, Breaks, IsServed, IsBrokenOff};
+ghost use Rattle.nm_workers.specs.Serving.{io, Finishes, IsServed, IsBrokenOff};
 ghost use Rattle.nm_mailbox.specs.Ends.{pieces_by, received_by, SendsTo};
 
 use crate::dispatcher::{Dispatcher, SerialClient};
@@ -102,12 +102,8 @@ where
     requires some { 1 ≤ vec_len targets }
     requires few { vec_len targets ≤ 16 }
     requires size { All (λ target. size_of core.haggling.export ≤ T.size target) targets.items }
-    ensures ok { IfOk result.result (λ served. Ends (IsResult T.follows) served core
-        (io (I.remaining reader) (O.contents (device_of sender)))
-        (O.contents (device_of result.sender))) }
-    ensures err { IfErr result.result (λ fault. Breaks (IsResult T.follows) fault core
-        (io (I.remaining reader) (O.contents (device_of sender)))
-        (O.contents (device_of result.sender))) }
+    ensures ends { Finishes (IsResult T.follows) O.contents core
+        (io (I.remaining reader) (O.contents (device_of sender))) result }
 {
     let (mut core, mut reader, mut sender) = (core, reader, sender);
     let Ok(mut room) = vec![in alloc; 0; ROOM] else {
@@ -152,12 +148,8 @@ where
     O: Write + Drop,
     T: Target + Send + Drop,
     requires size { All (λ target. size_of core.haggling.export ≤ T.size target) targets.items }
-    ensures ok { IfOk result.result (λ served. Ends (IsResult T.follows) served core
-        (io (I.remaining reader) (O.contents (device_of sender)))
-        (O.contents (device_of result.sender))) }
-    ensures err { IfErr result.result (λ fault. Breaks (IsResult T.follows) fault core
-        (io (I.remaining reader) (O.contents (device_of sender)))
-        (O.contents (device_of result.sender))) }
+    ensures ends { Finishes (IsResult T.follows) O.contents core
+        (io (I.remaining reader) (O.contents (device_of sender))) result }
 {
     start_session::<Brand, R, I, O, T>(rt, alloc, core, reader, sender, targets, token)
 }
@@ -180,12 +172,8 @@ where
     T: Target + Send + Drop,
     requires size { size_of core.haggling.export ≤ E.bytes }
     requires sizes { All (λ target. E.bytes ≤ T.size target) targets.items }
-    ensures ok { IfOk result.result (λ served. Ends (IsResult T.follows) served core
-        (io (I.remaining reader) (O.contents (device_of sender)))
-        (O.contents (device_of result.sender))) }
-    ensures err { IfErr result.result (λ fault. Breaks (IsResult T.follows) fault core
-        (io (I.remaining reader) (O.contents (device_of sender)))
-        (O.contents (device_of result.sender))) }
+    ensures ends { Finishes (IsResult T.follows) O.contents core
+        (io (I.remaining reader) (O.contents (device_of sender))) result }
 {
     let Ok((pieces, ends, inbox)) = mailbox::<JobResult<T>>(alloc, targets.len()) else {
         return broken_off(sender);
@@ -200,12 +188,8 @@ where
             requires size { size_of core.haggling.export ≤ E.bytes }
             requires fresh { (pieces_by pieces ≡ []) × (received_by inbox ≡ []) }
             requires channel { SendsTo pieces inbox }
-            ensures ok { IfOk result.result (λ served. Ends (IsResult T.follows) served core
-                (io (I.remaining reader) (O.contents (device_of sender)))
-                (O.contents (device_of result.sender))) }
-            ensures err { IfErr result.result (λ fault. Breaks (IsResult T.follows) fault core
-                (io (I.remaining reader) (O.contents (device_of sender)))
-                (O.contents (device_of result.sender))) }
+            ensures ends { Finishes (IsResult T.follows) O.contents core
+                (io (I.remaining reader) (O.contents (device_of sender))) result }
         {
             let dispatcher = Dispatcher {
                 pool: WorkerPool::new(scope, idle),
@@ -250,12 +234,8 @@ where
     requires fresh { (pieces_by reader.pieces ≡ []) × (received_by inbox ≡ []) }
     requires is_open { reader.is_open ≡ true }
     requires channel { SendsTo reader.pieces inbox }
-    ensures ok { IfOk result.result (λ served. Ends (IsResult T.follows) served core
-        (io (I.remaining reader.source) (O.contents (device_of sender)))
-        (O.contents (device_of result.sender))) }
-    ensures err { IfErr result.result (λ fault. Breaks (IsResult T.follows) fault core
-        (io (I.remaining reader.source) (O.contents (device_of sender)))
-        (O.contents (device_of result.sender))) }
+    ensures ends { Finishes (IsResult T.follows) O.contents core
+        (io (I.remaining reader.source) (O.contents (device_of sender))) result }
 {
     let mut owner = Owner {
         core,

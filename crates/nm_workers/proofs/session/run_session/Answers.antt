@@ -6,23 +6,16 @@ use Rattle.nm_workers.specs.Results.{IsResult}
 use Rattle.nm_workers.proofs.Owning.{owned}
 use Rattle.nm_workers.proofs.session.run_session.Goals as goal
 
-pub returns-clause-ok : goal.returns-clause-ok
-returns-clause-ok g c =
-    let owner = c.serve_requests-result.new.owner in
-    (owned (IsResult g.T.Target.follows) g.I.Read.remaining c.args.reader c.serve_requests-result.result.reader
-    c.requires.fresh.0 c.requires.is_open c.serve_requests-result.ensures.reads c.args.core owner.core
-    (received_by c.args.inbox) (received_by owner.inbox) (g.O.Write.contents (device_of c.args.sender))
-    (g.O.Write.contents (device_of owner.sender)) c.requires.fresh.1 c.settle.ensures.beginning
-    c.serve_requests-result.result.result c.serve_requests-result.ensures.ends).0
-
-pub returns-clause-err : goal.returns-clause-err
-returns-clause-err g c =
-    let owner = c.serve_requests-result.new.owner in
-    (owned (IsResult g.T.Target.follows) g.I.Read.remaining c.args.reader c.serve_requests-result.result.reader
-    c.requires.fresh.0 c.requires.is_open c.serve_requests-result.ensures.reads c.args.core owner.core
-    (received_by c.args.inbox) (received_by owner.inbox) (g.O.Write.contents (device_of c.args.sender))
-    (g.O.Write.contents (device_of owner.sender)) c.requires.fresh.1 c.settle.ensures.beginning
-    c.serve_requests-result.result.result c.serve_requests-result.ensures.ends).1
+pub returns : goal.returns
+returns g c = record {
+  ends =
+      let owner = c.serve_requests-result.new.owner in
+      owned (IsResult g.T.Target.follows) g.I.Read.remaining c.args.reader c.serve_requests-result.result.reader
+      c.requires.fresh.0 c.requires.is_open c.serve_requests-result.ensures.reads c.args.core owner.core
+      (received_by c.args.inbox) (received_by owner.inbox) (g.O.Write.contents (device_of c.args.sender))
+      (g.O.Write.contents (device_of owner.sender)) c.requires.fresh.1 c.settle.ensures.beginning
+      c.serve_requests-result.result.result c.serve_requests-result.ensures.ends;
+}
 
 pub settle-requires : goal.settle-requires
 settle-requires g c =

@@ -1,16 +1,17 @@
 -- A session is its haggling and then its requests.
 use Rattle.std.proofs.Common.{None}
 use Rattle.nm_replies.specs.Sending.{device_of}
-use Rattle.nm_workers.specs.Serving.{io, Negotiates, Ends, Breaks}
+use Rattle.nm_workers.specs.Serving.{io, Negotiates}
 use Rattle.nm_workers.proofs.Owning.{sizes_stay}
-use Rattle.nm_workers.specs.Results.{IsResult, no_result}
+use Rattle.nm_workers.specs.Results.{no_result}
 use Rattle.nm_workers.proofs.ResultRuns.{runs_of}
-use Rattle.nm_workers.proofs.WholeSessions.{if_ok, if_err, breaks_at_once, ends_on, breaks_on, haggled, haggled_ends, haggled_breaks}
+use Rattle.nm_workers.proofs.WholeSessions.{breaks_at_once, ends_or_breaks_on, haggled, haggled_ends, haggled_breaks}
 use Rattle.nm_workers.proofs.session.serve_core.Goals as goal
 
-pub returns-in_default-clause-err : goal.returns-in_default-clause-err
-returns-in_default-clause-err g c =
-    breaks_at_once c.args.core (g.I.Read.remaining c.args.reader) (g.O.Write.contents (device_of c.args.sender))
+pub returns-in_default : goal.returns-in_default
+returns-in_default g c = record {
+  ends = breaks_at_once c.args.core (g.I.Read.remaining c.args.reader) (g.O.Write.contents (device_of c.args.sender));
+}
 
 pub transmit-requires-clause-size : goal.transmit-requires-clause-size
 transmit-requires-clause-size g c κs within =
@@ -22,33 +23,22 @@ transmit-requires-clause-size g c κs within =
     (runs_of no_result c.args.core c.negotiate.new.core greets.0.events greets.0.runs)
     c.requires.size
 
-pub returns-in-Ok-None-clause-ok : goal.returns-in-Ok-None-clause-ok
-returns-in-Ok-None-clause-ok g c =
+pub returns-in-Ok-None : goal.returns-in-Ok-None
+returns-in-Ok-None g c =
     let u = io (g.I.Read.remaining c.args.reader) (g.O.Write.contents (device_of c.args.sender)) in
     let v = io (g.I.Read.remaining c.negotiate.new.reader) (g.O.Write.contents (device_of c.negotiate.new.sender)) in
     let written = g.O.Write.contents (device_of c.transmit.result.sender) in
     let greets : Negotiates None c.args.core c.negotiate.new.core u v =
     rw c.in-Ok-None.field-0-is at c.in-Ok-None.ensures.ok in
-    if_ok c.transmit.result.result (λ served. Ends (IsResult g.T.Target.follows) served c.negotiate.new.core v written)
-    (λ served. Ends (IsResult g.T.Target.follows) served c.args.core u written)
-    (λ served ends. ends_on served c.args.core c.negotiate.new.core u v written (haggled _ _ _ _ greets.0) ends)
-    c.transmit.ensures.ok
+    record {
+      ends = ends_or_breaks_on c.transmit.result.result c.args.core c.negotiate.new.core u v written
+          (haggled _ _ _ _ greets.0) c.transmit.ensures.ends;
+    }
 
-pub returns-in-Ok-None-clause-err : goal.returns-in-Ok-None-clause-err
-returns-in-Ok-None-clause-err g c =
-    let u = io (g.I.Read.remaining c.args.reader) (g.O.Write.contents (device_of c.args.sender)) in
-    let v = io (g.I.Read.remaining c.negotiate.new.reader) (g.O.Write.contents (device_of c.negotiate.new.sender)) in
-    let written = g.O.Write.contents (device_of c.transmit.result.sender) in
-    let greets : Negotiates None c.args.core c.negotiate.new.core u v =
-    rw c.in-Ok-None.field-0-is at c.in-Ok-None.ensures.ok in
-    if_err c.transmit.result.result (λ found. Breaks (IsResult g.T.Target.follows) found c.negotiate.new.core v written)
-    (λ found. Breaks (IsResult g.T.Target.follows) found c.args.core u written)
-    (λ found breaks. breaks_on found c.args.core c.negotiate.new.core u v written (haggled _ _ _ _ greets.0) breaks)
-    c.transmit.ensures.err
+pub returns-in-Ok-Some : goal.returns-in-Ok-Some
+returns-in-Ok-Some g c = record {
+  ends = haggled_ends c.in-Ok-Some.served c.args.core _ _ (rw c.in-Ok-Some.field-0-is at c.in-Ok-Some.ensures.ok);
+}
 
-pub returns-in-Ok-Some-clause-ok : goal.returns-in-Ok-Some-clause-ok
-returns-in-Ok-Some-clause-ok g c =
-    haggled_ends c.in-Ok-Some.served c.args.core _ _ (rw c.in-Ok-Some.field-0-is at c.in-Ok-Some.ensures.ok)
-
-pub returns-in-Err-clause-err : goal.returns-in-Err-clause-err
-returns-in-Err-clause-err g c = haggled_breaks c.in-Err.fault c.args.core _ _ c.in-Err.ensures.err
+pub returns-in-Err : goal.returns-in-Err
+returns-in-Err g c = record { ends = haggled_breaks c.in-Err.fault c.args.core _ _ c.in-Err.ensures.err }
