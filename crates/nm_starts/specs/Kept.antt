@@ -19,7 +19,8 @@ absent_legs here = legs_where (λ leg. not (has leg here))
 abbrev pub SavesOnce : (honest : Bool) → Superblock → (here : List Bool) → (old new : FilesState)
     → Type 0
 SavesOnce honest image here old new =
-    IsDone honest (request_of image.sets image.marked false image.changed (absent_legs here)) old new
+    IsDone honest
+    (request_of image.sets image.marked false image.changed (absent_legs here)) old new
 
 -- a save was done, or two of them
 abbrev pub SavesTimes : (twice : Bool) → (FilesState → FilesState → Type 0)

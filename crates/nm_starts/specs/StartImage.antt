@@ -76,8 +76,8 @@ IsFirstOver files s seen lineage image =
 -- that goes on from what superblocks decide
 abbrev pub OpensBy : LegFiles → Settings → FoundLegs → (lineage : ℕ) → (Superblock × Bool)
     → Type 0
-OpensBy files s seen lineage (image , true) =
+OpensBy files s seen lineage (image, true) =
     Chooses s.opening seen lineage First × IsFirstOver files s seen lineage image
-OpensBy files s seen lineage (image , false) =
+OpensBy files s seen lineage (image, false) =
     (found : Superblock) × Chooses s.opening seen lineage (Image found)
     × GoesOnWith s seen found image
