@@ -1,6 +1,6 @@
 -- A save takes from one stripe after the other: what it has of the earlier ones stays among the
 -- spans, and no leg comes back into the set of those that are out.
-use Rattle.std.proofs.Common.{◌≡◌, ⊎_elim, ℕ, IfSome, Option, None, Some, ◌+◌, ◌<◌, ◌≤◌, ◌&&◌, ◌||◌, Bool, true, false, List, length, replicate, get_or, set, refl, sym, ap, ◌∙◌, subst, arith}
+use Rattle.std.proofs.Common.{◌≡◌, ⊎_elim, ℕ, IfSome, Option, None, Some, ◌+◌, ◌<◌, ◌≤◌, ◌&&◌, ◌||◌, Bool, true, false, not, List, length, replicate, get_or, set, refl, sym, ap, ◌∙◌, subst, arith}
 use Rattle.std.proofs.lemmas.Bool.{cases_lt}
 use Rattle.std.proofs.lemmas.List.{get_or-replicate, get_or-set_other, get_or-set_same, get_or_past, length-replicate, length-set}
 use Rattle.nm_gate.specs.Claims.{claims_of, has, legs_where, marks_of, no_claims}
@@ -9,7 +9,8 @@ use Rattle.nm_gate.specs.declared.gated_stripe.GatedStripe.{GatedStripe}
 use Rattle.nm_gate.specs.declared.leg_claims.LegClaims.{LegClaims}
 use Rattle.nm_mirror.specs.Replacing.{called_whole}
 use Rattle.nm_mirror.specs.Saves.{IsJoined}
-use Rattle.nm_mirror.specs.Saving.{AreAmong, IsTaken, Takes, claims_in, is_out_in}
+use Rattle.nm_mirror.specs.Saving.{AreAmong, IsTaken, Takes, claims_in}
+use Rattle.nm_mirror.specs.Settling.{is_at_work}
 use Rattle.nm_mirror.specs.declared.save_taking.Taken.{Taken}
 use Rattle.nm_mirror.proofs.SaveLemmas.{last-or-before, marks-among}
 use Rattle.nm_gate.specs.Durable.{Durable}
@@ -23,9 +24,10 @@ and-left : (a b : Bool) → (a && b) ≡ true → a ≡ true
 and-left true b is = refl
 and-left false b is = is
 
-and-right : (a b : Bool) → (a && b) ≡ true → b ≡ true
-and-right true b is = is
-and-right false b is = absurd (cc)
+and-not : (a b : Bool) → (a && not b) ≡ true → b ≡ false
+and-not true true is = absurd (cc)
+and-not true false is = refl
+and-not false b is = absurd (cc)
 
 -- what is joined stays
 pub joined_among : (marks old new : List Bool) → IsJoined marks old new → AreAmong old new
@@ -71,7 +73,7 @@ take_more L count whole held old new inside is takes before = record {
           among = among_same new.spans;
           claims = ap (λ (claims : List LegClaims). get_or claims number no_claims) written
               ∙ subst (λ (n : ℕ). get_or (set old.claims count one) n no_claims ≡ one) (sym same) (get_or-set_same old.claims count one no_claims inside);
-          out = λ leg room out. and-right (has leg old.out) (is_out_in leg held.stripe) (sym (ap (has leg) takes.out ∙ has-where (λ l. has l old.out && is_out_in l held.stripe) leg room) ∙ out);
+          out = λ leg room out. and-not (has leg old.out) (is_at_work held.stripe leg) (sym (ap (has leg) takes.out ∙ has-where (λ l. has l old.out && not (is_at_work held.stripe l)) leg room) ∙ out);
         },
       ))
       (λ earlier.
@@ -84,7 +86,7 @@ take_more L count whole held old new inside is takes before = record {
           marks = of.marks;
           among = among_twice was.1 old.spans new.spans of.among (joined_among (marks_of held.durable) old.spans new.spans takes.spans);
           claims = other-claims number count one old.claims new.claims written (λ same. absurd (omega (arith, same, earlier))) ∙ of.claims;
-          out = λ leg room out. of.out leg room (and-left (has leg old.out) (is_out_in leg held.stripe) (sym (ap (has leg) takes.out ∙ has-where (λ l. has l old.out && is_out_in l held.stripe) leg room) ∙ out));
+          out = λ leg room out. of.out leg room (and-left (has leg old.out) (not (is_at_work held.stripe leg)) (sym (ap (has leg) takes.out ∙ has-where (λ l. has l old.out && not (is_at_work held.stripe l)) leg room) ∙ out));
         },
       ))
       (last-or-before number count below);
@@ -135,7 +137,7 @@ pub takes : {L : Type 0} (held : GatedStripe L) (whole marks : List Bool) (numbe
     → marks ≡ marks_of held.durable → length marks ≤ 16384 → IsJoined marks old.spans new.spans
     → number ≡ held.stripe.place.stripe → claims ≡ claims_in held.stripe held.durable new.spans → one ≡ called_whole claims whole
     → new.claims ≡ set old.claims number one
-    → new.out ≡ legs_where (λ leg. has leg old.out && is_out_in leg held.stripe) → Takes held whole old new
+    → new.out ≡ legs_where (λ leg. has leg old.out && not (is_at_work held.stripe leg)) → Takes held whole old new
 takes held whole marks number one claims old new are few joined at is called written kept =
     let own : IsJoined (marks_of held.durable) old.spans new.spans = subst (λ (ms : List Bool). IsJoined ms old.spans new.spans) are joined in
     record {

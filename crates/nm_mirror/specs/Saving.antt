@@ -1,6 +1,6 @@
 -- What a save takes from the stripes as they are held one after the other, and what their gates are
 -- told of it.
-use Rattle.std.specs.Prelude.{◌≡◌, ℕ, ◌<◌, ◌≤◌, Bool, true, not, ◌&&◌, ◌||◌, nat_lt, List, length}
+use Rattle.std.specs.Prelude.{◌≡◌, ℕ, ◌<◌, ◌≤◌, Bool, true, false, not, ◌&&◌, List}
 use Rattle.std.specs.Prelude.{Option, None, Some, IfSome, slice_index_or, slice_set}
 use Rattle.nm_gate.specs.Changes.{Ends, MayEnd, failed, widened}
 use Rattle.nm_gate.specs.Claims.{HasMarks, claims_of, has, legs_where, marks_of, no_claims}
@@ -11,7 +11,8 @@ use Rattle.nm_mirror.specs.Replacing.{called_whole}
 use Rattle.nm_mirror.specs.Saves.{IsJoined}
 use Rattle.nm_mirror.specs.declared.save_order.SaveOrder.{SaveOrder}
 use Rattle.nm_mirror.specs.declared.save_taking.Taken.{Taken}
-use Rattle.nm_rules.specs.State.{StripeState, is_out, leg_state}
+use Rattle.nm_mirror.specs.Settling.{is_at_work}
+use Rattle.nm_rules.specs.State.{StripeState}
 
 -- what a save with these marks says of a stripe's legs, by what the superblock may say of it
 abbrev pub claims_in : {L : Type 0} → StripeState L → Option Durable → (marked : List Bool)
@@ -19,13 +20,9 @@ abbrev pub claims_in : {L : Type 0} → StripeState L → Option Durable → (ma
 claims_in stripe None marked = no_claims
 claims_in stripe (Some d) marked = claims_of stripe d marked
 
--- the leg is none of the stripe's, or is out there
-abbrev pub is_out_in : {L : Type 0} → (leg : ℕ) → StripeState L → Bool
-is_out_in leg stripe = not (nat_lt leg (length stripe.legs)) || is_out (leg_state leg stripe)
-
--- of the legs that were out those stay that are out in this stripe, too
+-- of the legs that were out those stay that are not at work in this stripe, either
 abbrev pub KeepsOut : {L : Type 0} → StripeState L → (old new : List Bool) → Type 0
-KeepsOut stripe old new = new ≡ legs_where (λ leg. has leg old && is_out_in leg stripe)
+KeepsOut stripe old new = new ≡ legs_where (λ leg. has leg old && not (is_at_work stripe leg))
 
 -- each of these marks is among the spans
 abbrev pub AreAmong : (marks spans : List Bool) → Type 0
@@ -34,7 +31,7 @@ AreAmong marks spans =
 
 -- What a save takes from a stripe: its marks are added to the spans, which have each of them; by
 -- these, what it claims of its legs stands at its number, but for those that are to be whole; and
--- its legs that are not out are taken away from the set.
+-- its legs at work are taken away from the set.
 pub record Takes {L : Type 0} (held : GatedStripe L) (whole : List Bool) (old new : Taken)
     : Type 0 where
   pub spans : IsJoined (marks_of held.durable) old.spans new.spans
@@ -52,7 +49,7 @@ pub record BeginsAt {L : Type 0} (marked : List Bool) (old new : GatedStripe L) 
 
 -- The order says of the stripe of this number what one hold of it claimed: by marks that have each
 -- that the stripe had and are among the spans, but for the legs that are to be whole. A leg that
--- the order has as out was out in that hold.
+-- the order has as out was not at work in that hold.
 pub record IsOf {L : Type 0} (number : ℕ) (order : Taken) (whole : List Bool)
     (held : GatedStripe L) (marked : List Bool) : Type 0 where
   pub own : held.stripe.place.stripe ≡ number
@@ -61,7 +58,7 @@ pub record IsOf {L : Type 0} (number : ℕ) (order : Taken) (whole : List Bool)
   pub claims : slice_index_or order.claims number no_claims
       ≡ called_whole (claims_in held.stripe held.durable marked) whole
   pub out : (leg : ℕ) → leg < 8 → has leg order.out ≡ true
-      → is_out_in leg held.stripe ≡ true
+      → is_at_work held.stripe leg ≡ false
 
 -- so it is of each of so many stripes, and nothing is claimed of any other
 pub record IsTaken (L : Type 0) (stripes : ℕ) (whole : List Bool) (order : Taken)

@@ -1,23 +1,23 @@
 //! What a save takes from one stripe after the other.
-ghost use Rattle.std.specs.Prelude.{◌≡◌, ◌<◌, ◌&&◌, replicate, true};
+ghost use Rattle.std.specs.Prelude.{◌≡◌, ◌<◌, replicate, true};
 ghost use Rattle.nm_gate.specs.Changes.{Leads};
 ghost use Rattle.nm_gate.specs.Claims.{no_claims};
 ghost use Rattle.nm_leg.specs.Leg.{leg_type};
 ghost use Rattle.nm_mirror.specs.Holding.{with_gated};
 ghost use Rattle.nm_mirror.specs.Saves.{IsJoined};
-ghost use Rattle.nm_mirror.specs.Saving.{BeginsAt, KeepsOut, Takes, is_out_in};
+ghost use Rattle.nm_mirror.specs.Saving.{BeginsAt, KeepsOut, Takes};
 ghost use Rattle.nm_rules.specs.Invariant.{HasLegs};
-ghost use Rattle.nm_rules.specs.State.{is_out};
 
 use crate::held::Held;
 use crate::save_desk::MOST_SPANS;
 use crate::save_order::MOST_STRIPES;
+use crate::settling::at_work;
 use crate::whole::called_whole;
 use nm_book::Naming;
 use nm_gate::LegClaims;
 use nm_geometry::LegSet;
 use nm_leg::LegPart;
-use nm_stripe::{LegState, Stripe};
+use nm_stripe::Stripe;
 
 /// Adds these marks to the spans.
 pub(crate) fn join_marks(spans: &mut [bool; MOST_SPANS], marks: &[bool])
@@ -31,44 +31,11 @@ pub(crate) fn join_marks(spans: &mut [bool; MOST_SPANS], marks: &[bool])
     }
 }
 
-/// Whether a leg of this state is out.
-fn is_out(state: LegState) -> bool
-    ensures { result ≡ is_out state }
-{
-    match state {
-        LegState::Out => true,
-        LegState::InSync | LegState::Joining => false,
-    }
-}
-
-/// Whether the leg is none of the stripe's, or is out there.
-fn is_out_in<L: LegPart>(stripe: &Stripe<L>, leg: u8) -> bool
-    ensures { result ≡ is_out_in leg stripe.now }
-{
-    !((leg as usize) < stripe.legs()) || is_out(stripe.state(leg))
-}
-
-/// Whether a leg that was out so far is none of the stripe's, or is out there.
-fn stays_out<L: LegPart>(out: bool, stripe: &Stripe<L>, leg: u8) -> bool
-    ensures { result ≡ (out && is_out_in leg stripe.now) }
-{
-    out && is_out_in(stripe, leg)
-}
-
-/// The legs of the set that are out in the stripe, too.
+/// The legs of the set that are not at work in the stripe, either.
 fn kept_out<L: LegPart>(stripe: &Stripe<L>, out: &LegSet) -> LegSet
     ensures { KeepsOut stripe.now out.now result }
 {
-    LegSet::of([
-        stays_out(out.has(0), stripe, 0),
-        stays_out(out.has(1), stripe, 1),
-        stays_out(out.has(2), stripe, 2),
-        stays_out(out.has(3), stripe, 3),
-        stays_out(out.has(4), stripe, 4),
-        stays_out(out.has(5), stripe, 5),
-        stays_out(out.has(6), stripe, 6),
-        stays_out(out.has(7), stripe, 7),
-    ])
+    out.without(&at_work(stripe))
 }
 
 /// What a save has taken from the stripes so far: what each claims of its legs, the spans that are

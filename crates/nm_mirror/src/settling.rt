@@ -70,7 +70,7 @@ fn is_at_work<L: LegPart>(stripe: &Stripe<L>, leg: u8) -> bool
 }
 
 /// The legs that are not out in the stripe.
-fn at_work<L: LegPart>(stripe: &Stripe<L>) -> LegSet
+pub(crate) fn at_work<L: LegPart>(stripe: &Stripe<L>) -> LegSet
     ensures { result ≡ legs_where (is_at_work stripe.now) }
 {
     LegSet::of([
