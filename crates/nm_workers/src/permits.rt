@@ -8,7 +8,7 @@ ghost use Rattle.crossbeam_channel.specs.Claims.{IsSeatAt};
 ghost use Rattle.crossbeam_channel.specs.Ends.{sends_on, receives_on};
 
 use crate::read_buffer::{ReadBuffer, Room};
-use crate::round::{NoRequest, ReadState};
+use crate::round::{Lull, NoRequest, ReadState};
 use crossbeam_channel::protocol::{Free, Split};
 use crossbeam_channel::{Pass, RuledReceiver, RuledSender, bounded_with};
 use nm_session::SessionCore;
@@ -31,15 +31,14 @@ impl ReadPermit {
     pub(crate) fn next(
         alloc: Global,
         core: &SessionCore,
-        why: NoRequest,
-        state: ReadState,
+        lull: Lull,
         room: &mut ReadBuffer,
     ) -> Result<Option<ReadPermit>, Memory>
-        requires why { HasNoRequest why core.now }
+        requires why { HasNoRequest lull.why core.now }
     {
-        match (why, state) {
+        match (lull.why, lull.state) {
             (NoRequest::Starved, ReadState::Idle) => Ok(Some(ReadPermit::new(
-                alloc, core, state, room,
+                alloc, core, lull.state, room,
             )?)),
             _ => Ok(None),
         }

@@ -11,7 +11,7 @@ ghost use Rattle.nm_workers.specs.Reading.{IsIdleForOwner, ReadsFurther, reader_
 use crate::dispatcher::Dispatcher;
 use crate::permits::{PermitSender, ReadPermit};
 use crate::reader::{AllRead, Reader, poll_and_read, start_reading};
-use crate::round::{NoRequest, ReadState};
+use crate::round::{Lull, ReadState};
 use crate::spin_wait::BusyPoll;
 use nm_session::{ServeFault, SessionCore};
 use std::alloc::Global;
@@ -83,19 +83,18 @@ pub(crate) fn permit_piece<R: Wait, C, I: BusyPoll, M: Drop>(
     rt: &R,
     alloc: Global,
     core: &SessionCore,
-    why: NoRequest,
-    state: ReadState,
+    lull: Lull,
     dispatcher: &mut Dispatcher<'_, C>,
     by: &mut ReadBy<I, M>,
 ) -> Result<ReadState, ServeFault>
-    requires why { HasNoRequest why core.now }
-    ensures ok { IfOk result (λ next. next ≡ Eof → state ≡ Eof) }
+    requires why { HasNoRequest lull.why core.now }
+    ensures ok { IfOk result (λ next. next ≡ Eof → lull.state ≡ Eof) }
     ensures memory { IfErr result (λ fault. fault ≡ Memory) }
     ensures reads { ReadsFurther I.remaining (reader_of by.old) (reader_of by.new) }
 {
     match by {
-        ReadBy::Thread(_, _) => read_next(rt, alloc, core, why, state, dispatcher, by),
-        ReadBy::Owner(_) => Ok(state),
+        ReadBy::Thread(_, _) => read_next(rt, alloc, core, lull, dispatcher, by),
+        ReadBy::Owner(_) => Ok(lull.state),
     }
 }
 
@@ -105,23 +104,22 @@ pub(crate) fn read_piece_here<R: Wait, C, I: BusyPoll, M: Drop>(
     rt: &R,
     alloc: Global,
     core: &SessionCore,
-    why: NoRequest,
-    state: ReadState,
+    lull: Lull,
     dispatcher: &mut Dispatcher<'_, C>,
     by: &mut ReadBy<I, M>,
 ) -> Result<ReadState, ServeFault>
-    requires why { HasNoRequest why core.now }
-    ensures ok { IfOk result (λ next. next ≡ Eof → state ≡ Eof) }
+    requires why { HasNoRequest lull.why core.now }
+    ensures ok { IfOk result (λ next. next ≡ Eof → lull.state ≡ Eof) }
     ensures memory { IfErr result (λ fault. fault ≡ Memory) }
     ensures reads { ReadsFurther I.remaining (reader_of by.old) (reader_of by.new) }
 {
     match by {
-        ReadBy::Thread(_, _) => Ok(state),
+        ReadBy::Thread(_, _) => Ok(lull.state),
         ReadBy::Owner(_) => {
             if !core.is_idle() {
-                return Ok(state);
+                return Ok(lull.state);
             }
-            read_next(rt, alloc, core, why, state, dispatcher, by)
+            read_next(rt, alloc, core, lull, dispatcher, by)
         }
     }
 }
@@ -133,18 +131,17 @@ fn read_next<R: Wait, C, I: BusyPoll, M: Drop>(
     rt: &R,
     alloc: Global,
     core: &SessionCore,
-    why: NoRequest,
-    state: ReadState,
+    lull: Lull,
     dispatcher: &mut Dispatcher<'_, C>,
     by: &mut ReadBy<I, M>,
 ) -> Result<ReadState, ServeFault>
-    requires why { HasNoRequest why core.now }
+    requires why { HasNoRequest lull.why core.now }
     requires idle { IsIdleForOwner by.old core.now }
-    ensures ok { IfOk result (λ next. next ≡ Eof → state ≡ Eof) }
+    ensures ok { IfOk result (λ next. next ≡ Eof → lull.state ≡ Eof) }
     ensures memory { IfErr result (λ fault. fault ≡ Memory) }
     ensures reads { ReadsFurther I.remaining (reader_of by.old) (reader_of by.new) }
 {
-    match ReadPermit::next(alloc, core, why, state, &mut dispatcher.buffer) {
+    match ReadPermit::next(alloc, core, lull, &mut dispatcher.buffer) {
         Ok(Some(permit)) => {
             let is_taken = match by {
                 ReadBy::Thread(permits, _) => permits.send(rt, permit),
@@ -159,7 +156,7 @@ fn read_next<R: Wait, C, I: BusyPoll, M: Drop>(
                 Err(ServeFault::Memory)
             }
         }
-        Ok(None) => Ok(state),
+        Ok(None) => Ok(lull.state),
         Err(_) => Err(ServeFault::Memory),
     }
 }

@@ -19,7 +19,7 @@ use crate::messages::{GATHERED, answer, receive};
 use crate::pool::{WorkerPool, submit_deferred};
 use crate::read_by::{ReadBy, into_reader, permit_piece, read_piece_here, switch_reader};
 use crate::reader::Reader;
-use crate::round::{NoRequest, Owner, ReadState, Round};
+use crate::round::{Lull, NoRequest, Owner, ReadState, Round};
 use crate::spin_wait::BusyPoll;
 use nm_replies::ReplyWriter;
 use nm_session::{End, ServeFault, Served, SessionCore, Target, send_out};
@@ -151,15 +151,15 @@ where
         )?;
         return Ok(Round::Continue(state));
     }
-    let state = permit_piece(rt, alloc, &owner.core, why, state, dispatcher, by)?;
+    let state = permit_piece(rt, alloc, &owner.core, Lull { why, state }, dispatcher, by)?;
     if submit_deferred(rt, alloc, &mut dispatcher.pool, owner.core.under_way()).is_err() {
         return Err(ServeFault::Memory);
     }
     send_out(&mut owner.core, &mut owner.sender)?;
-    if let Some(served) = over(&owner.core, why, state) {
+    if let Some(served) = over(&owner.core, Lull { why, state }) {
         return Ok(Round::Done(served));
     }
-    let state = read_piece_here(rt, alloc, &owner.core, why, state, dispatcher, by)?;
+    let state = read_piece_here(rt, alloc, &owner.core, Lull { why, state }, dispatcher, by)?;
     let next = receive(
         rt,
         alloc,
@@ -218,14 +218,14 @@ fn wants_thread<S, E: Extent, I: Read, T: Target>(
 }
 
 // The session's end, if it has come: nothing more is read and no request is outstanding.
-fn over(core: &SessionCore, why: NoRequest, state: ReadState) -> Option<Served>
-    requires why { HasNoRequest why core.now }
-    ensures { IfSome result (λ served. IsOverAt served core.now state) }
+fn over(core: &SessionCore, lull: Lull) -> Option<Served>
+    requires why { HasNoRequest lull.why core.now }
+    ensures { IfSome result (λ served. IsOverAt served core.now lull.state) }
 {
     if !core.is_idle() {
         return None;
     }
-    match (why, state) {
+    match (lull.why, lull.state) {
         (NoRequest::Ended, _) => Some(core.report(core.end())),
         (NoRequest::Starved, ReadState::Eof) => Some(core.report(End::EndOfInput)),
         _ => None,

@@ -34,6 +34,14 @@ pub enum ReadState {
     Eof,
 }
 
+// A lull in the requests: why no further one is handed out, and what is known of the client's bytes
+// that were not received yet.
+#[derive(Clone, Copy)]
+pub struct Lull {
+    pub(crate) why: NoRequest,
+    pub(crate) state: ReadState,
+}
+
 // What came of a round. It tells what is known of the client's bytes.
 #[derive(Clone, Copy)]
 pub enum Round {
