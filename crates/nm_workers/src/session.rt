@@ -15,7 +15,7 @@ use crate::reader::Reader;
 use crate::requests::{AllServed, serve_requests};
 use crate::round::Owner;
 use crate::spin_wait::{BusyPoll, SpinToken, SpinWait, Unpolled};
-use nm_mailbox::{Inbox, mailbox};
+use nm_mailbox::mailbox;
 use nm_replies::ReplyWriter;
 use nm_session::{Limit, ServeFault, Served, SessionCore, Target, laws};
 use nm_wire::Export;
@@ -197,8 +197,12 @@ where
                 spin_wait: SpinWait::new(token),
                 client: SerialClient::new(),
             };
-            let reader = Reader::new(reader, pieces);
-            run_session(rt, alloc, core, sender, inbox, dispatcher, reader)
+            let owner = Owner {
+                core,
+                inbox,
+                sender,
+            };
+            run_session(rt, alloc, owner, dispatcher, Reader::new(reader, pieces))
         },
     )
 }
@@ -214,13 +218,11 @@ fn broken_off<O>(sender: ReplyWriter<O>) -> Finished<O>
     }
 }
 
-// Owns the session's core until its end.
+// Has the owner of the session's core serve it to its end.
 fn run_session<'s, S, E, R, I, O, T>(
     rt: &'s R,
     alloc: Global,
-    core: SessionCore,
-    sender: ReplyWriter<O>,
-    inbox: Inbox<JobResult<T>>,
+    owner: Owner<O, JobResult<T>>,
     dispatcher: Dispatcher<'_, WorkerPool<'_, 's, S, E, T>>,
     reader: Reader<I, JobResult<T>>,
 ) -> Finished<O>
@@ -230,18 +232,14 @@ where
     I: BusyPoll + Send + Drop + 's,
     O: Write + Drop,
     T: Target + Send + Drop + 's,
-    requires size { size_of core.haggling.export ≤ E.bytes }
-    requires fresh { (pieces_by reader.pieces ≡ []) × (received_by inbox ≡ []) }
+    requires size { size_of owner.core.haggling.export ≤ E.bytes }
+    requires fresh { (pieces_by reader.pieces ≡ []) × (received_by owner.inbox ≡ []) }
     requires is_open { reader.is_open ≡ true }
-    requires channel { SendsTo reader.pieces inbox }
-    ensures ends { Finishes (IsResult T.follows) O.contents core
-        (io (I.remaining reader.source) (O.contents (device_of sender))) result }
+    requires channel { SendsTo reader.pieces owner.inbox }
+    ensures ends { Finishes (IsResult T.follows) O.contents owner.core
+        (io (I.remaining reader.source) (O.contents (device_of owner.sender))) result }
 {
-    let mut owner = Owner {
-        core,
-        inbox,
-        sender,
-    };
+    let mut owner = owner;
     let AllServed { result, reader } = serve_requests(rt, alloc, &mut owner, dispatcher, reader);
     let Owner {
         core: _,

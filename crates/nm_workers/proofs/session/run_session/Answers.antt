@@ -11,8 +11,8 @@ returns g c = record {
   ends =
       let owner = c.serve_requests-result.new.owner in
       owned (IsResult g.T.Target.follows) g.I.Read.remaining c.args.reader c.serve_requests-result.result.reader
-      c.requires.fresh.0 c.requires.is_open c.serve_requests-result.ensures.reads c.args.core owner.core
-      (received_by c.args.inbox) (received_by owner.inbox) (g.O.Write.contents (device_of c.args.sender))
+      c.requires.fresh.0 c.requires.is_open c.serve_requests-result.ensures.reads c.args.owner.core owner.core
+      (received_by c.args.owner.inbox) (received_by owner.inbox) (g.O.Write.contents (device_of c.args.owner.sender))
       (g.O.Write.contents (device_of owner.sender)) c.requires.fresh.1 c.settle.ensures.beginning
       c.serve_requests-result.result.result c.serve_requests-result.ensures.ends;
 }
