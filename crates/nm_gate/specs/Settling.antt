@@ -1,6 +1,7 @@
 -- Which stripe may settle, and what the flushes do by which it settles.
 use Rattle.std.specs.Prelude.{◌≡◌, ℕ, ◌||◌, Bool, true, false, List, [], ◌∷◌, length}
 use Rattle.nm_leg.specs.Leg.{LegType}
+use Rattle.nm_rules.specs.Invariant.{Keeps}
 use Rattle.nm_rules.specs.State.{StripeState}
 use Rattle.nm_stripe.specs.declared.answer.Answer.{Answer}
 use Rattle.nm_stripe.specs.declared.answer.Answer.TheVariants.{Synced}
@@ -42,3 +43,12 @@ pub record SyncsLegs {L : Type 0} (type : LegType L) (d : Durable) (count : ℕ)
   pub flush : IsGatedFlush count moves
   pub stays : new ≡ record old { legs = new.legs }
   pub legs : length new.legs ≡ length old.legs
+
+-- A stripe whose marks may be cleared: in an earlier state they might be once each leg is synced,
+-- and since then each leg was synced, and nothing else was done.
+pub record MayClear {L : Type 0} (type : LegType L) (now : StripeState L) (d : Durable)
+    : Type 0 where
+  pub before : StripeState L
+  pub keeps : Keeps type before
+  pub may : MaySettle before d
+  pub synced : SyncsLegs type d (length before.legs) before now

@@ -3,13 +3,14 @@ ghost use Rattle.std.specs.Prelude.{◌≡◌, ◌<◌, ◌⊎◌, ◌↔◌, �
 ghost use Rattle.std.specs.Prelude.{IfSome};
 ghost use Rattle.std.specs.Prelude.{None, slice_index_or};
 ghost use Rattle.std.specs.List.{list_any};
+ghost use Rattle.std.specs.Option.{option_map};
 ghost use Rattle.nm_leg.specs.Leg.{leg_type};
 ghost use Rattle.nm_gate.specs.Changes.{AreMoves, Leads, cleared};
 ghost use Rattle.nm_gate.specs.Claims.{marks_of};
 ghost use Rattle.nm_gate.specs.Durable.{is_lacking, is_named};
 ghost use Rattle.nm_gate.specs.Gate.{IsInSync, IsSaved};
-ghost use Rattle.nm_gate.specs.Moves.{IsEqualAt};
-ghost use Rattle.nm_gate.specs.Settling.{EndsInFailure, MaySettle, SyncsLegs, TriesSync};
+ghost use Rattle.nm_gate.specs.Moves.{IsEqualAt, Unmarks};
+ghost use Rattle.nm_gate.specs.Settling.{EndsInFailure, MayClear, MaySettle, SyncsLegs, TriesSync};
 ghost use Rattle.nm_gate.specs.Survive.{EqualOutside, Stands};
 
 use crate::durable_state::DurableState;
@@ -72,6 +73,21 @@ impl<L: LegPart> GatedStripe<L> {
         }
         durable.clear();
         true
+    }
+
+    /// Clears all marks, once each leg was synced since they might be cleared so.
+    pub fn clear(&mut self)
+        requires { IfSome self.old.durable
+            (MayClear (leg_type L.model L.honest) self.old.stripe) }
+        ensures stripe { self.new.stripe ≡ self.old.stripe }
+        ensures durable { self.new.durable ≡ option_map cleared self.old.durable }
+        ensures equal { IfSome self.old.durable (λ d. IsTrue L.honest
+            → Stands (leg_type L.model L.honest) self.old.stripe d
+            → Unmarks L.model self.old.stripe d (cleared d)) }
+    {
+        if let Some(durable) = &mut self.durable {
+            durable.clear();
+        }
     }
 }
 

@@ -156,7 +156,7 @@ impl<L: LegPart> Stripe<L> {
     }
 
     /// Says what the stripe keeps, and does nothing: for proofs of lists of steps.
-    pub(crate) fn keeps(&self)
+    pub fn keeps(&self)
         ensures { Keeps (leg_type L.model L.honest) self.now }
     {
         let _stopped = self.store.is_stopped();
