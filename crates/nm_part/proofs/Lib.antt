@@ -1,1 +1,1 @@
-mod AskLemmas
+pub mod AskLemmas
