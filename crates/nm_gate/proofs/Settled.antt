@@ -23,7 +23,7 @@ use Rattle.nm_gate.specs.Gate.{IsSaved}
 use Rattle.nm_gate.specs.Held.{NoneOn}
 use Rattle.nm_gate.specs.Moves.{AllLeave, Clears, Does, Gated, GatedRuns, IsEqualAt, Leaves, Move, MoveOf, SomeSyncs, SyncsOne, Unmarks}
 use Rattle.nm_gate.specs.Saves.{IsCovered}
-use Rattle.nm_gate.specs.Settling.{EndsInFailure, MaySettle, SyncsLegs, TriesSync}
+use Rattle.nm_gate.specs.Settling.{EndsInFailure, MayClear, MaySettle, SyncsLegs, TriesSync}
 use Rattle.nm_gate.specs.Survive.{EqualOutside, Stands}
 use Rattle.nm_gate.proofs.Unmarked.{cooled-clear}
 
@@ -216,3 +216,18 @@ ends-so type leg result mid new tries off = (leg, mid, subst (λ (b : Bool). Tri
 pub hindered-if : {L : Type 0} (type : LegType L) (old new : StripeState L) (durable : Option Durable) (d : Durable) (result : Bool) → durable ≡ Some d → (MaySettle old d → ⊥) ⊎ EndsInFailure type new
     → IfSome durable (λ d. result ≡ false → (MaySettle old d → ⊥) ⊎ EndsInFailure type new)
 hindered-if type old new durable d result is why = subst (λ (o : Option Durable). IfSome o (λ d. result ≡ false → (MaySettle old d → ⊥) ⊎ EndsInFailure type new)) (sym is) (λ off. why)
+
+-- where each leg was synced since the marks might be cleared so, they may be cleared
+pub cleared-if : {L : Type 0} (type : LegType L) (stripe : StripeState L) (durable : Option Durable) (d : Durable) → durable ≡ Some d → IfSome durable (MayClear type stripe)
+    → IfSome durable (λ d. IsTrue type.honest → Stands type stripe d → Unmarks type.model stripe d (cleared d))
+cleared-if {L} type stripe durable d is may =
+    subst (λ (o : Option Durable). IfSome o (λ d. IsTrue type.honest → Stands type stripe d → Unmarks type.model stripe d (cleared d))) (sym is)
+    (λ is_honest stands. let here : MayClear type stripe d = subst (λ (o : Option Durable). IfSome o (MayClear type stripe)) is may in
+    let stood : Stands type here.before d = record {
+      keeps = here.keeps;
+      runs = sym (ap (λ (x : StripeState L). x.stopped) here.synced.stays) ∙ stands.runs;
+      apart = λ leg named joins. stands.apart leg named (ap (λ (x : StripeState L). leg_state leg x) here.synced.stays ∙ joins);
+    } in record {
+      after = refl;
+      equal = λ block inside off on. settled-equal type is_honest d here.before stripe here.may stood here.synced block inside;
+    })
