@@ -16,7 +16,7 @@ use crate::mirror_settings::MirrorSettings;
 use crate::opening_settings::OpeningSettings;
 use crate::server_settings::Settings;
 use crate::start::Start;
-use crate::superblock_options::{added_legs, moved_legs, place_from, superblock_place};
+use crate::superblock_options::{named_legs, place_from, superblock_place};
 use crate::values::{bare_number, is_named, number, text, wide_number};
 use clap::{ArgMatches, Error};
 use nm_choice::Policy;
@@ -163,8 +163,8 @@ fn opening_of<'a>(alloc: Global, matches: &ArgMatches<'a>) -> Result<OpeningSett
     let superblock = superblock_place(matches)?;
     let superblock_from = place_from(matches);
     let force_master = bare_number(matches, "force-master")?;
-    let added = added_legs(alloc, matches)?;
-    let moved = moved_legs(alloc, matches)?;
+    let added = named_legs(alloc, matches, "add-leg")?;
+    let moved = named_legs(alloc, matches, "moved")?;
     Ok(OpeningSettings {
         master,
         start,

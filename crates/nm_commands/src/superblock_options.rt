@@ -40,29 +40,19 @@ pub fn place_from<'a>(matches: &ArgMatches<'a>) -> Option<SuperblockPlace<'a>>
     }
 }
 
-/// The legs that superblocks need not know, as the words name them.
-pub fn added_legs<'a>(alloc: Global, matches: &ArgMatches<'a>) -> Result<Vec<&'a str>, Error>
+/// The legs that this option names, as the words have them: none where they have no such option.
+pub fn named_legs<'a>(
+    alloc: Global,
+    matches: &ArgMatches<'a>,
+    id: &str,
+) -> Result<Vec<&'a str>, Error>
     ensures ok { IfOk result (λ legs. AreAll
-        (option_map raw_values (matched_of (found_of matches.now) (codes "add-leg")))
+        (option_map raw_values (matched_of (found_of matches.now) id.now))
         (map (λ leg. leg.now) legs.items)) }
     ensures memory { IfErr result (λ error. kind_of error ≡ OutOfMemory) }
 {
     let mut legs = Vec::new(alloc);
-    if let Some(names) = matches.get_strs("add-leg") {
-        legs.extend_from_slice(names)?;
-    }
-    Ok(legs)
-}
-
-/// The legs that were moved with their superblocks, as the words name them.
-pub fn moved_legs<'a>(alloc: Global, matches: &ArgMatches<'a>) -> Result<Vec<&'a str>, Error>
-    ensures ok { IfOk result (λ legs. AreAll
-        (option_map raw_values (matched_of (found_of matches.now) (codes "moved")))
-        (map (λ leg. leg.now) legs.items)) }
-    ensures memory { IfErr result (λ error. kind_of error ≡ OutOfMemory) }
-{
-    let mut legs = Vec::new(alloc);
-    if let Some(names) = matches.get_strs("moved") {
+    if let Some(names) = matches.get_strs(id) {
         legs.extend_from_slice(names)?;
     }
     Ok(legs)
