@@ -1,4 +1,5 @@
 //! The places of sessions: who is served now, and who is served next.
+ghost use Rattle.std.specs.Prelude.{◌≡◌, IfOk};
 
 use crate::client_stream::ClientStream;
 use crate::served_client::{Closing, ServedClient};
@@ -43,7 +44,10 @@ impl SessionPlaces {
         alloc: Global,
         count: usize,
         rules: SessionRules,
-    ) -> Result<SessionPlaces, Memory> {
+    ) -> Result<SessionPlaces, Memory>
+        ensures count { IfOk result (λ places. places.count ≡ count) }
+        ensures rules { IfOk result (λ places. places.rules ≡ rules) }
+    {
         let (mut streams, mut served) = (Vec::new(alloc), Vec::new(alloc));
         if streams.reserve(count).is_err() {
             return Err(Memory);
@@ -73,7 +77,9 @@ impl SessionPlaces {
     }
 
     /// The lookout that the sessions share.
-    pub fn lookout(&self) -> &SpinToken {
+    pub fn lookout(&self) -> &SpinToken
+        ensures { result.now ≡ self.now.lookout }
+    {
         &self.lookout
     }
 
@@ -88,17 +94,23 @@ impl SessionPlaces {
     }
 
     /// How many places there are.
-    pub fn count(&self) -> usize {
+    pub fn count(&self) -> usize
+        ensures { result ≡ self.now.count }
+    {
         self.count
     }
 
     /// How many bytes the replies to what is outstanding in a session may carry.
-    pub fn reply_bytes(&self) -> usize {
+    pub fn reply_bytes(&self) -> usize
+        ensures { result ≡ self.now.rules.reply_bytes }
+    {
         self.rules.reply_bytes
     }
 
     /// Whether sessions that begin and end are logged.
-    pub fn is_verbose(&self) -> bool {
+    pub fn is_verbose(&self) -> bool
+        ensures { result ≡ self.now.rules.is_verbose }
+    {
         self.rules.is_verbose
     }
 
