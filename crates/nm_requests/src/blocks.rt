@@ -31,6 +31,11 @@ pub(crate) fn is_long_payload(payload: usize) -> bool {
     payload > LONG_PAYLOAD
 }
 
+// Whether a payload of this length mostly has a block of its own.
+pub(crate) fn has_own_room(payload: usize) -> bool {
+    LONG_PIECE <= payload
+}
+
 // Whether the piece is a block worth keeping: long, and with little room behind it.
 pub(crate) fn is_to_become_block(piece: &BytesMut) -> bool {
     LONG_PIECE <= piece.len() && piece.capacity() / MOST_ROOM <= piece.len()

@@ -4,7 +4,7 @@ ghost use Rattle.bytes.specs.Filled.{MakesSpare};
 ghost use Rattle.nm_wire.specs.Layout.{FitsRequestHead, request_head_bytes};
 ghost use Rattle.nm_wire.specs.Number.{be, request_magic};
 
-use crate::blocks::{append_to, cut_range, is_long_payload, is_to_become_block};
+use crate::blocks::{append_to, cut_range, has_own_room, is_long_payload, is_to_become_block};
 use crate::cutting::missing_len;
 use bytes::{Bytes, BytesMut};
 use nm_wire::{RequestHead, WireFault};
@@ -187,15 +187,22 @@ impl Received {
 
     // Moves the bytes to a new block if the payload cut before them was long, and no shorter than
     // they are, so that moving costs no more than feeding it did. They stay where memory is
-    // refused, and where they begin with another long request, which may use the block again.
+    // refused, and where they begin with another long request, which may use the block again. A
+    // header alone is taken off behind a payload that mostly has a block of its own: then nobody
+    // else has any of that block, which can be read into again once the payload is let go.
     fn leave_long_block(&mut self, payload: usize)
         ensures { self.new.items ≡ self.old.items }
     {
-        if !is_long_payload(payload) || payload < self.bytes.len() {
+        if payload < self.bytes.len() || !has_own_room(payload) {
             return;
         }
-        if !is_long_payload(missing_len(self)) {
-            let alloc = *self.bytes.allocator();
+        let alloc = *self.bytes.allocator();
+        self.take_head_off();
+        if self.bytes.is_empty() {
+            self.bytes = BytesMut::new(alloc);
+            return;
+        }
+        if is_long_payload(payload) && !is_long_payload(missing_len(self)) {
             if let Ok(rest) = BytesMut::copy_from_slice(alloc, self.bytes.as_slice()) {
                 self.bytes = rest;
             }

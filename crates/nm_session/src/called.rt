@@ -1,15 +1,18 @@
 ghost use Rattle.std.specs.Prelude.{◌≡◌};
 
 use crate::outcome::Outcome;
+use bytes::BytesMut;
 use nm_requests::Task;
 use std::marker::Model;
 
 /// What came of a task that was called for, with the index of its request. Only `call` makes one.
+/// That of a WRITE may have the room that the payload was in.
 #[derive(Drop)]
 pub struct Called {
     index: u64,
     task: Task,
     outcome: Outcome,
+    room: Option<BytesMut>,
 }
 
 impl Model for Called {
@@ -31,11 +34,33 @@ impl Called {
         requires { Fits task outcome }
         ensures { result ≡ record { index = index; task = task; outcome = says outcome } }
     {
+        Called::with_room(index, task, outcome, None)
+    }
+
+    // What came of a task that was called for, with this room.
+    pub(crate) fn with_room(
+        index: u64,
+        task: Task,
+        outcome: Outcome,
+        room: Option<BytesMut>,
+    ) -> Called
+        requires { Fits task outcome }
+        ensures { result ≡ record { index = index; task = task; outcome = says outcome } }
+    {
         Called {
             index,
             task,
             outcome,
+            room,
         }
+    }
+
+    /// Takes the room that a WRITE's payload was in, if nobody else has any of it: the next payload
+    /// may be read into it.
+    pub fn take_room(&mut self) -> Option<BytesMut>
+        ensures { self.new ≡ self.old }
+    {
+        self.room.take()
     }
 
     /// The request's index.
@@ -61,6 +86,7 @@ impl Called {
             index: _,
             task: _,
             outcome,
+            room: _,
         } = self;
         outcome
     }

@@ -7,6 +7,7 @@ ghost use Rattle.nm_session.specs.Target.{Reads};
 
 use crate::called::Called;
 use crate::outcome::Outcome;
+use crate::payload_room::{hold, room_of};
 use crate::target::Target;
 use crate::target_fault::TargetFault;
 use bytes::Bytes;
@@ -20,7 +21,8 @@ use std::alloc::Global;
 /// A READ is read into the buffer that was used before, or into a new one where that is too small;
 /// where it is refused the target is not called, and the outcome is ENOMEM. After a WRITE or a
 /// zeroing that succeeded and is to be durable, `sync_touched` is called for the same bytes, and
-/// its answer is the outcome.
+/// its answer is the outcome. The room of a long payload comes back with it, if nobody has the
+/// payload any more.
 pub fn call<T: Target>(
     alloc: Global,
     target: &mut T,
@@ -44,7 +46,11 @@ pub fn call<T: Target>(
             offset,
             length,
             fua,
-        } => { Called::new(index, task, write(target, offset, length, fua, payload)) }
+        } => {
+            let held = hold(&payload);
+            let outcome = write(target, offset, length, fua, payload);
+            Called::with_room(index, task, outcome, room_of(held))
+        }
         Task::Zero {
             offset,
             length,

@@ -35,6 +35,7 @@ mod limit;
 mod next;
 mod outcome;
 mod outstanding;
+mod payload_room;
 mod phase;
 mod refused;
 mod serve_fault;

@@ -1,7 +1,7 @@
 ghost use Rattle.std.specs.Prelude.{ℕ, ◌≡◌};
 
 use crate::round::NoRequest;
-use bytes::Bytes;
+use bytes::{Bytes, BytesMut};
 use nm_requests::Task;
 use nm_session::{Called, Next, ServeFault, SessionCore, Target, call};
 use std::alloc::Global;
@@ -163,6 +163,13 @@ impl<T: Target> JobResult<T> {
             called: call(alloc, target, index, task, payload, buffer),
             of: PhantomData,
         }
+    }
+
+    // Takes the room that a WRITE's payload was in, if it came back.
+    pub(crate) fn take_room(&mut self) -> Option<BytesMut>
+        ensures { self.new ≡ self.old }
+    {
+        self.called.take_room()
     }
 
     // The request's index, its task and the outcome.

@@ -19,6 +19,7 @@ mod read_buffer;
 mod read_by;
 mod reader;
 mod requests;
+mod room_pool;
 mod round;
 mod session;
 mod spin_wait;

@@ -78,7 +78,7 @@ fn handle_message<T: Target>(
     ensures err { IfErr result (λ fault. core.new ≡ core.old) }
 {
     match message {
-        Message::Outcome(called) => match answer(alloc, core, called) {
+        Message::Outcome(done) => match settle(alloc, core, done, room) {
             Ok(()) => Ok(state),
             Err(fault) => Err(fault),
         },
@@ -98,9 +98,25 @@ fn handle_message<T: Target>(
     }
 }
 
+// Answers the request with the result of its task, and keeps the room that came back with it.
+pub(crate) fn settle<T: Target>(
+    alloc: Global,
+    core: &mut SessionCore,
+    done: JobResult<T>,
+    room: &mut ReadBuffer,
+) -> Result<(), ServeFault>
+    ensures ok { OnOk result (Settles (IsResult T.follows) core.old done core.new) }
+    ensures memory { IfErr result (λ fault. fault ≡ Memory) }
+    ensures err { IfErr result (λ fault. core.new ≡ core.old) }
+{
+    let mut done = done;
+    room.give_back(done.take_room());
+    answer(alloc, core, done)
+}
+
 // Answers the request with the result of its task. One that is not outstanding stays as it is. The
 // result of another task than the request's never comes; it would break the session off.
-pub(crate) fn answer<T: Target>(
+fn answer<T: Target>(
     alloc: Global,
     core: &mut SessionCore,
     done: JobResult<T>,

@@ -1,5 +1,6 @@
 ghost use Rattle.std.specs.Prelude.{◌≡◌, ◌<◌, [], IfOk};
 
+use crate::room_pool::RoomPool;
 use bytes::BytesMut;
 use nm_wire::Memory;
 use std::alloc::Global;
@@ -47,7 +48,7 @@ pub enum Use {
 
 // The room for the next piece. A new one is filled up with zeroes, 128 KiB of which take longer
 // than a small request; so it follows what the client sends, and is that of the last piece while it
-// has the size. The room of a long piece is not used again: it has the payload.
+// has the size. The room of a long piece has the payload, and is used again once that was written.
 #[derive(Drop)]
 pub struct ReadBuffer {
     bytes: usize,
@@ -61,6 +62,8 @@ pub struct ReadBuffer {
     ahead: usize,
     // The room of the last piece that was for whatever comes, or none where it had another size.
     last: BytesMut,
+    // The rooms of long payloads that were written.
+    pool: RoomPool,
     ghost some: { 0 < bytes },
     ghost some_long: { 0 < long },
 }
@@ -75,6 +78,14 @@ impl ReadBuffer {
             headers: 0,
             ahead: HEADER,
             last: BytesMut::new(alloc),
+            pool: RoomPool::new(alloc),
+        }
+    }
+
+    // Takes back the room of a payload, if it came back.
+    pub(crate) fn give_back(&mut self, room: Option<BytesMut>) {
+        if let Some(room) = room {
+            self.pool.keep(room);
         }
     }
 
@@ -109,7 +120,7 @@ impl ReadBuffer {
     {
         self.last_use = Use::Long(wanted);
         self.headers = MOST_HEADERS;
-        let bytes = BytesMut::with_capacity(alloc, wanted.saturating_add(HEADER))?;
+        let bytes = self.pool.take(alloc, wanted.saturating_add(HEADER))?;
         Ok(Room { bytes, wanted })
     }
 

@@ -15,8 +15,9 @@ ghost use Rattle.nm_workers.specs.Reading.{ReadsFurther, reader_of};
 
 use crate::dispatcher::{Dispatcher, hand_out};
 use crate::job::{Extent, JobResult};
-use crate::messages::{GATHERED, answer, receive};
+use crate::messages::{GATHERED, receive, settle};
 use crate::pool::{WorkerPool, submit_deferred};
+use crate::read_buffer::ReadBuffer;
 use crate::read_by::{ReadBy, into_reader, permit_piece, read_piece_here, switch_reader};
 use crate::reader::Reader;
 use crate::round::{Lull, NoRequest, Owner, ReadState, Round};
@@ -148,6 +149,7 @@ where
             &mut owner.core,
             &mut owner.sender,
             &mut dispatcher.pool,
+            &mut dispatcher.buffer,
         )?;
         return Ok(Round::Continue(state));
     }
@@ -238,6 +240,7 @@ fn do_deferred<S, E: Extent, O: Write, T: Target + Drop>(
     core: &mut SessionCore,
     sender: &mut ReplyWriter<O>,
     pool: &mut WorkerPool<'_, '_, S, E, T>,
+    room: &mut ReadBuffer,
 ) -> Result<(), ServeFault>
     requires deferred { IsSome pool.old.deferred }
     requires spare { 0 < vec_len pool.old.idle.spare }
@@ -250,7 +253,7 @@ fn do_deferred<S, E: Extent, O: Write, T: Target + Drop>(
         (owner_state core.old heard (O.contents (device_of sender.old)))
         (owner_state core.new heard (O.contents (device_of sender.new)))) }
 {
-    answer_deferred(alloc, core, pool)?;
+    answer_deferred(alloc, core, pool, room)?;
     send_out(core, sender)?;
     Ok(())
 }
@@ -260,6 +263,7 @@ fn answer_deferred<S, E: Extent, T: Target + Drop>(
     alloc: Global,
     core: &mut SessionCore,
     pool: &mut WorkerPool<'_, '_, S, E, T>,
+    room: &mut ReadBuffer,
 ) -> Result<(), ServeFault>
     requires deferred { IsSome pool.old.deferred }
     requires spare { 0 < vec_len pool.old.idle.spare }
@@ -269,5 +273,5 @@ fn answer_deferred<S, E: Extent, T: Target + Drop>(
     let (job, worker) = pool.take_deferred();
     let (done, worker) = worker.do_job(alloc, job);
     pool.take_back(worker);
-    answer(alloc, core, done)
+    settle(alloc, core, done, room)
 }
