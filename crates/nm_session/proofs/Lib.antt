@@ -12,3 +12,4 @@ pub mod Changing
 pub mod Reading
 pub mod Events
 pub mod ReadEvents
+pub mod Buffers

@@ -1,4 +1,4 @@
-ghost use Rattle.std.specs.Prelude.{◌≡◌, ◌≤◌, All, vec_len, vec_capacity};
+ghost use Rattle.std.specs.Prelude.{◌≡◌, ◌≤◌, sum_by, vec_len, vec_capacity};
 
 use nm_requests::Task;
 use std::alloc::Global;
@@ -6,24 +6,27 @@ use std::alloc::Global;
 // A shorter buffer is not used again: to fill a new one with zeroes takes hardly any time.
 const LEAST: usize = 16 * 1024;
 
-// How many bytes of data a buffer that is kept has room for at most.
-const MOST: usize = 256 * 1024;
+// Nor is one for a longer READ.
+const MOST: usize = 1024 * 1024;
 
-// How much room it has at most, with the reply's header.
-const MOST_ROOM: usize = MOST + 16;
+// How much room all have at most: that of 16 for 256 KiB of data and a header each.
+const MOST_ROOM: usize = 16 * (256 * 1024 + 16);
 
 // How many are kept at most.
 const MANY: usize = 16;
 
-/// Buffers whose bytes were sent, for READs to come to be read into: at most 16, each with room for
-/// at most 256 KiB of data and a header.
+/// Buffers whose bytes were sent, for READs to come to be read into: at most 16, with room for 4 MiB
+/// of data and 16 headers in all.
 #[derive(Drop)]
 pub struct BufferPool {
     spare: Vec<Vec<u8>>,
+    // How many bytes they have room for.
+    room: usize,
     // For how many READs no buffer has come back.
     lent: usize,
     ghost few: { vec_len spare ≤ 16 },
-    ghost short: { All (λ buffer. vec_capacity buffer ≤ 262160) spare.items },
+    ghost all: { room ≡ sum_by vec_capacity spare.items },
+    ghost most: { room ≤ 4194560 },
 }
 
 impl BufferPool {
@@ -31,6 +34,7 @@ impl BufferPool {
     pub(crate) fn new(alloc: Global) -> BufferPool {
         BufferPool {
             spare: Vec::new(alloc),
+            room: 0,
             lent: 0,
         }
     }
@@ -42,21 +46,34 @@ impl BufferPool {
             return Vec::new(alloc);
         }
         self.lent = self.lent.saturating_add(1);
-        match self.spare.pop() {
+        match self.pop() {
             Some(buffer) => buffer,
             None => Vec::new(alloc),
         }
     }
 
+    // The buffer that was kept last.
+    #[tactic(auto, using(crate::proofs::Buffers::sum_of_both))]
+    fn pop(&mut self) -> Option<Vec<u8>> {
+        let buffer = self.spare.pop()?;
+        self.room -= buffer.capacity();
+        Some(buffer)
+    }
+
     // Keeps a buffer whose bytes were sent, if it has such a length: as many as were taken. So one
     // in which short replies gathered is not kept for a client that asks for no others.
+    #[tactic(auto, using(crate::proofs::Buffers::sum_of_both))]
     pub(crate) fn keep(&mut self, buffer: Vec<u8>) {
         if self.lent == 0 || buffer.len() < LEAST {
             return;
         }
         self.lent -= 1;
-        if buffer.capacity() <= MOST_ROOM && self.spare.len() < MANY {
-            let _kept = self.spare.push(buffer).is_ok();
+        let room = buffer.capacity();
+        if MOST_ROOM - self.room < room || self.spare.len() >= MANY {
+            return;
+        }
+        if self.spare.push(buffer).is_ok() {
+            self.room += room;
         }
     }
 }

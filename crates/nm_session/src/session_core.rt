@@ -302,7 +302,7 @@ impl SessionCore {
         self.spare.take(alloc, task)
     }
 
-    /// Keeps a buffer that was sent for READs to come, if it is long: at most 16 of 256 KiB each.
+    /// Keeps a buffer that was sent for READs to come, if it is long: at most 16, of 4 MiB in all.
     pub fn keep_buffer(&mut self, buffer: Vec<u8>)
         ensures { self.new ≡ self.old }
     {

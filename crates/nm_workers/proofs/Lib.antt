@@ -8,3 +8,4 @@ pub mod WholeSessions
 pub mod Negotiations
 pub mod Owning
 pub mod Working
+pub mod Rooms

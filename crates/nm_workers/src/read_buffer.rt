@@ -152,6 +152,8 @@ impl ReadBuffer {
                 if asked == self.long && asked <= count && asked < MOST_LONG {
                     self.long = asked * 2;
                 }
+                // The room is still there where the piece was copied.
+                self.pool.keep(room);
             }
             Use::Header => {
                 if self.ahead == 0 {
