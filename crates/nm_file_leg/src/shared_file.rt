@@ -1,3 +1,5 @@
+ghost use Rattle.std.specs.Prelude.{◌≡◌, IfOk};
+
 use crate::backing_file::BackingFile;
 use crate::sync_counts::{is_covered, may_have_lost};
 use std::alloc::{AllocError, Global};
@@ -66,7 +68,9 @@ fn lost_earlier() -> io::Error {
 
 impl<F: BackingFile> SharedFile<F> {
     /// This file, for so many users.
-    pub fn new(alloc: Global, file: F, users: usize) -> Result<Self, AllocError> {
+    pub fn new(alloc: Global, file: F, users: usize) -> Result<Self, AllocError>
+        ensures { IfOk result (λ shared. shared.file ≡ file) }
+    {
         let mut all = Vec::with_capacity(alloc, users)?;
         for _ in 0..users {
             all.push(User {
@@ -85,7 +89,9 @@ impl<F: BackingFile> SharedFile<F> {
     }
 
     /// The file itself.
-    pub fn file(&self) -> &F {
+    pub fn file(&self) -> &F
+        ensures { result.now ≡ self.now.file }
+    {
         &self.file
     }
 

@@ -1,6 +1,7 @@
 //! What others have of the legs' files: how long they are, and shares of what is noted and counted
 //! of them.
-ghost use Rattle.std.specs.Prelude.{◌≡◌, IfOk, length};
+ghost use Rattle.std.specs.Prelude.{◌≡◌, IfOk, map};
+ghost use Rattle.nm_leg_files.specs.Limits.{calls_in, calls_of};
 
 use crate::leg_files::LegFiles;
 use crate::leg_opening::BLOCK_BYTES;
@@ -40,14 +41,14 @@ impl LegFiles {
         Ok(troubles)
     }
 
-    /// The limits of the legs' calls, one a leg.
+    /// The limits of the legs' calls, leg 0's first.
     pub fn limits(&self, alloc: Global) -> Result<Vec<CallLimit>, AllocError>
-        ensures { IfOk result (λ limits. length limits.items ≡ length self.now.files.items) }
+        ensures { IfOk result (λ limits.
+            map calls_in limits.items ≡ map calls_of self.now.files.items) }
     {
         let mut limits = Vec::new(alloc);
-        'legs: for leg in 0..self.files.len() {
-            let limit = share_limit(self.files[leg].shared.file().limit())?;
-            limits.push(limit)?;
+        for file in &self.files {
+            limits.push(share_limit(file.shared.file().limit())?)?;
         }
         Ok(limits)
     }

@@ -1,7 +1,7 @@
 //! A leg's file whose calls may take no longer than a time, where that was asked for.
 ghost use Rattle.std.specs.Prelude.{◌≡◌, None, IsErr, IfOk};
 ghost use Rattle.std.specs.Arc.{arc_value};
-ghost use Rattle.std.specs.Option.{option_map};
+ghost use Rattle.nm_leg_files.specs.Limits.{calls_in};
 
 use crate::late_file::LateFile;
 use crate::timed_calls::TimedCalls;
@@ -22,9 +22,7 @@ pub struct LimitedFile {
 
 /// A share of a limit.
 pub fn share_limit(limit: &CallLimit) -> Result<CallLimit, AllocError>
-    ensures { IfOk result (λ own.
-        option_map (λ calls. arc_value calls) own
-        ≡ option_map (λ calls. arc_value calls) limit.now) }
+    ensures { IfOk result (λ own. calls_in own ≡ calls_in limit.now) }
 {
     match limit {
         Some(calls) => Ok(Some(Arc::try_clone(calls)?)),
@@ -43,7 +41,10 @@ impl LimitedFile {
         alloc: Global,
         late: LateFile,
         limit: &CallLimit,
-    ) -> Result<LimitedFile, AllocError> {
+    ) -> Result<LimitedFile, AllocError>
+        ensures late { IfOk result (λ own. arc_value own.late ≡ late) }
+        ensures limit { IfOk result (λ own. calls_in own.limit ≡ calls_in limit.now) }
+    {
         Ok(LimitedFile {
             late: Arc::new(alloc, late)?,
             limit: share_limit(limit)?,
@@ -59,12 +60,16 @@ impl LimitedFile {
     }
 
     /// The file.
-    pub(crate) fn late(&self) -> &LateFile {
+    pub(crate) fn late(&self) -> &LateFile
+        ensures { result.now ≡ arc_value self.now.late }
+    {
         &self.late
     }
 
     /// Its limit.
-    pub(crate) fn limit(&self) -> &CallLimit {
+    pub(crate) fn limit(&self) -> &CallLimit
+        ensures { result.now ≡ self.now.limit }
+    {
         &self.limit
     }
 
