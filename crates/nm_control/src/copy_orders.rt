@@ -12,7 +12,6 @@ use nm_leg_files::CallLimit;
 use nm_mirror::{AttachCounts, FailCounts, Mirror, Naming};
 use nm_reports::MirrorDoubts;
 use nm_service::LegOrders;
-use std::alloc::Global;
 use std::sync::atomic::{AtomicBool, AtomicU32, Ordering};
 use std::sync::{Condvar, Mutex, Wait};
 
@@ -258,7 +257,6 @@ impl CopyOrders {
     pub fn replace<R: Wait, L: LegPart, G: Gate + Drop, J: Naming, N: RenewsLegs<L>>(
         &self,
         rt: &R,
-        alloc: Global,
         mirror: &Mirror<L, G, J>,
         leg: u8,
         legs: &N,
@@ -268,7 +266,7 @@ impl CopyOrders {
         let Some(was_out) = self.begin_replace(rt, leg) else {
             return Replaced::Busy;
         };
-        let replaced = replace_now(rt, alloc, mirror, leg, legs);
+        let replaced = replace_now(rt, mirror, leg, legs);
         let is_out = match replaced {
             Replaced::Done(counts) => counts.joining == 0 && was_out,
             Replaced::Last | Replaced::Busy => was_out,

@@ -139,7 +139,6 @@ fn put_replace<
     M: MakesLegs<L>,
 >(
     rt: &R,
-    alloc: Global,
     server: &Controlled<'_, L, G, J, N, M>,
     leg: u8,
     text: &mut String,
@@ -150,9 +149,7 @@ fn put_replace<
     if is_retired(server, leg) {
         return put_undone("replace", leg, "retired", text);
     }
-    let replaced = server
-        .orders
-        .replace(rt, alloc, server.mirror, leg, server.legs);
+    let replaced = server.orders.replace(rt, server.mirror, leg, server.legs);
     write!(text, "replace {leg}: {replaced}")?;
     match replaced {
         Replaced::Done(_) => put_saved(rt, server.mirror, text),
@@ -227,7 +224,7 @@ pub fn put_of_leg<
     match command {
         ControlCommand::Fail(leg) => put_fail(rt, server, leg_of(leg), text),
         ControlCommand::Attach(leg) => put_attach(rt, server, leg_of(leg), text),
-        ControlCommand::Replace(leg) => put_replace(rt, alloc, server, leg_of(leg), text),
+        ControlCommand::Replace(leg) => put_replace(rt, server, leg_of(leg), text),
         ControlCommand::Retire(leg) => put_retire(rt, server, leg_of(leg), text),
         _ => put_of_copies(rt, alloc, command, server, text),
     }

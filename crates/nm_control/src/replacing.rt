@@ -55,7 +55,7 @@ pub trait RenewsLegs<L> {
     /// Opens the file that the leg's name leads to now, and gives the leg a superblock's file and
     /// an id of its own, if it has one. The answer is the legs of all stripes on that file, stripe
     /// 0's first. No stripe has the leg meanwhile.
-    fn renew<R: Wait>(&self, rt: &R, alloc: Global, leg: u8) -> Result<Vec<L>, Unfit>;
+    fn renew<R: Wait>(&self, rt: &R, leg: u8) -> Result<Vec<L>, Unfit>;
 
     /// Leaves no superblock of the leg, which is out of every stripe for good.
     fn retire<R: Wait>(&self, rt: &R, leg: u8) -> Result<(), Unfit>;
@@ -109,12 +109,12 @@ impl<'x, O> LegRenewer<'x, O> {
 }
 
 impl<'x, O: OpensLegs> RenewsLegs<Leg> for LegRenewer<'x, O> {
-    fn renew<R: Wait>(&self, rt: &R, alloc: Global, leg: u8) -> Result<Vec<Leg>, Unfit> {
+    fn renew<R: Wait>(&self, rt: &R, leg: u8) -> Result<Vec<Leg>, Unfit> {
         let number = leg as usize;
         let Some(place) = self.places.get(number) else {
             return Err(Unfit::no_file());
         };
-        let legs = place.renew(rt, alloc, self.opener, number, &self.shape, &self.read)?;
+        let legs = place.renew(rt, self.opener, number, &self.shape, &self.read)?;
         if let Some(superblocks) = self.superblocks {
             place.renew_superblock(rt, self.opener, leg, &mut superblocks.lock(rt))?;
         }
@@ -140,14 +140,13 @@ impl<'x, O: OpensLegs> RenewsLegs<Leg> for LegRenewer<'x, O> {
 // Has the file of a leg that is out opened anew, and puts the leg back.
 fn put_back<R: Wait, L: LegPart, G: Gate + Drop, J: Naming, N: RenewsLegs<L>>(
     rt: &R,
-    alloc: Global,
     mirror: &Mirror<L, G, J>,
     leg: u8,
     legs: &N,
 ) -> Replaced
     requires { leg < mirror.now.shape.legs }
 {
-    let parts = match legs.renew(rt, alloc, leg) {
+    let parts = match legs.renew(rt, leg) {
         Ok(parts) => parts,
         Err(why) => return Replaced::Unfit(why),
     };
@@ -160,7 +159,6 @@ fn put_back<R: Wait, L: LegPart, G: Gate + Drop, J: Naming, N: RenewsLegs<L>>(
 /// Takes the leg out of every stripe, has its file opened anew, and puts it back.
 pub fn replace_now<R: Wait, L: LegPart, G: Gate + Drop, J: Naming, N: RenewsLegs<L>>(
     rt: &R,
-    alloc: Global,
     mirror: &Mirror<L, G, J>,
     leg: u8,
     legs: &N,
@@ -174,6 +172,6 @@ pub fn replace_now<R: Wait, L: LegPart, G: Gate + Drop, J: Naming, N: RenewsLegs
             let none = ReplaceCounts::default();
             Replaced::Done(ReplaceCounts { stopped, ..none })
         }
-        Withdrawal::Out => put_back(rt, alloc, mirror, leg, legs),
+        Withdrawal::Out => put_back(rt, mirror, leg, legs),
     }
 }

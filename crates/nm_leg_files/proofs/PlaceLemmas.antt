@@ -1,12 +1,12 @@
 -- One place more, for one leg's file more.
-use Rattle.std.proofs.Common.{◌≡◌, ℕ, arith, ◌+◌, ◌<◌, List, [], ◌∷◌, ◌++◌, length, map, take, get_or, ap, sym, ◌∙◌}
+use Rattle.std.proofs.Common.{◌≡◌, ℕ, zero, suc, arith, ◌+◌, ◌<◌, List, [], ◌∷◌, ◌++◌, IfSome, length, map, take, get_or, slice_get, refl, ap, sym, subst, ◌∙◌}
 use Rattle.std.proofs.lemmas.List.{length-append, length-take, take_more}
 use Rattle.nm_leg_files.specs.declared.leg_file.LegFile.{LegFile}
 use Rattle.nm_leg_files.specs.declared.leg_files.LegFiles.{LegFiles}
 use Rattle.nm_leg_files.specs.declared.leg_place.LegPlace.{LegPlace}
 use Rattle.nm_leg_files.specs.declared.limited_file.LimitedFile.{LimitedFile}
 use Rattle.nm_geometry.specs.Geometry.{Geometry}
-use Rattle.nm_leg_files.specs.Files.{IsOfStripe, place_on}
+use Rattle.nm_leg_files.specs.Files.{IsOfStripe, file_places, place_on}
 use Rattle.nm_leg_files.specs.Files.{LegPlace as Place}
 use Rattle.nm_leg_files.specs.Places.{KeptFile, kept_from, kept_in, kept_of}
 use Rattle.nm_leg_files.proofs.Pushing.{one-row-more}
@@ -43,3 +43,25 @@ pub of-stripe : (stripe : ℕ) (shape : Geometry) (file : LegFile) (place : Plac
 of-stripe stripe shape file place is =
     is ∙ ap (λ (own : LimitedFile). record { file = own; user = stripe; stripe = stripe; shape = shape })
     (sym (ap (λ (p : Place). p.file) is))
+
+-- what holds of each place by its number, and of one more, holds of all
+each-more : (P : ℕ → Place → Type 0) (places : List Place) (one : Place) → ((number : ℕ) → IfSome (slice_get places number) (P number))
+    → P (length places) one → (number : ℕ) → IfSome (slice_get (places ++ one ∷ []) number) (P number)
+each-more P [] one each here zero = here
+each-more P [] one each here (suc number) = tt
+each-more P (first ∷ rest) one each here zero = each 0
+each-more P (first ∷ rest) one each here (suc number) = each-more (λ k. P (suc k)) rest one (λ k. each (suc k)) here number
+
+-- the legs on a file are those of all stripes
+pub of-stripes : (stripes : ℕ) (shape : Geometry) (file : LegFile)
+    → (length (file_places stripes shape file) ≡ stripes)
+    × ((number : ℕ) → IfSome (slice_get (file_places stripes shape file) number) (IsOfStripe number shape))
+of-stripes zero shape file = (refl, λ number. tt)
+of-stripes (suc stripes) shape file =
+    let before = of-stripes stripes shape file in
+    let places = file_places stripes shape file in
+    let one = place_on stripes shape file in (
+      omega (arith, length-append places (one ∷ []), before.0),
+      each-more (λ number. IsOfStripe number shape) places one before.1
+          (subst (λ (number : ℕ). IsOfStripe number shape one) (sym before.0) refl),
+    )

@@ -1,6 +1,7 @@
 -- The legs' files, the mirror that is laid over them, and where its legs stand.
 use Rattle.std.specs.Arc.{arc_value}
 use Rattle.std.specs.Prelude.{◌≡◌, ℕ, zero, suc, ◌*◌, ◌-◌, ◌^◌, min, string_bytes}
+use Rattle.std.specs.Prelude.{IfSome, slice_get}
 use Rattle.std.specs.Prelude.{List, [], ◌∷◌, ◌++◌, length, map}
 use Rattle.nm_geometry.specs.Geometry.{Geometry, geometry, regions_for}
 use Rattle.nm_leg_files.specs.declared.counting_file.CountingFile.{CountingFile}
@@ -77,3 +78,8 @@ file_places (suc stripes) shape leg =
 abbrev pub IsOfStripe : (stripe : ℕ) → Geometry → LegPlace → Type 0
 IsOfStripe stripe shape place =
     place ≡ record { file = place.file; user = stripe; stripe = stripe; shape = shape }
+
+-- legs that stand here are those of all stripes of a mirror of this shape, stripe 0's first
+pub record AreOfStripes (shape : Geometry) (places : List LegPlace) : Type 0 where
+  pub count : length places ≡ shape.stripes
+  pub each : (stripe : ℕ) → IfSome (slice_get places stripe) (IsOfStripe stripe shape)

@@ -4,5 +4,6 @@ pub mod Here
 pub mod LegTime
 pub mod Limits
 pub mod Places
+pub mod Renewing
 pub mod SavedTimes
 pub mod Saving

@@ -1,12 +1,14 @@
 //! The legs of a mirror on the file of one leg.
-ghost use Rattle.std.specs.Prelude.{◌≡◌, IfOk, map};
+ghost use Rattle.std.specs.Prelude.{◌≡◌, IfOk, IsErr, map};
 ghost use Rattle.nm_leg_files.specs.Files.{file_places, leg_place};
+ghost use Rattle.nm_leg_files.specs.Renewing.{IsAnew};
 
 use crate::counting_file::BytesRead;
 use crate::late_file::LateFile;
 use crate::leg_file::LegFile;
 use crate::leg_files::{Leg, stripe_leg};
 use crate::limited_file::LimitedFile;
+use crate::unfit::Unfit;
 use nm_file_leg::SharedFile;
 use nm_geometry::{MOST_STRIPES, Shape};
 use nm_reports::StartFault;
@@ -28,7 +30,9 @@ impl LegFile {
 
     /// The leg's file in the place of this one, under the same limit. What fails of it and how
     /// often it is called is noted where it was.
-    pub(crate) fn anew(&self, alloc: Global, file: File) -> Result<LegFile, AllocError> {
+    fn anew(&self, alloc: Global, file: File) -> Result<LegFile, AllocError>
+        ensures { IfOk result (IsAnew file self.now) }
+    {
         let own = self.shared.file();
         let late = LateFile::opened(file, own.late().window());
         let limited = LimitedFile::of(alloc, late, own.limit())?;
@@ -40,6 +44,33 @@ impl LegFile {
             trouble: Arc::try_clone(&self.trouble)?,
             counts: Arc::try_clone(&self.counts)?,
         })
+    }
+
+    /// Has this file in its place, and makes the legs of all stripes on it, stripe 0's first. What
+    /// has failed of the other is forgotten.
+    pub(crate) fn renew(
+        &mut self,
+        alloc: Global,
+        file: File,
+        number: usize,
+        shape: &Shape,
+        read: &BytesRead,
+    ) -> Result<Vec<Leg>, Unfit>
+        ensures file { IfOk result (λ _. IsAnew file self.old self.new) }
+        ensures legs { IfOk result (λ legs.
+            map (λ leg. leg_place leg.medium leg.stripe leg.shape) legs.items
+            ≡ file_places shape.now.stripes shape.now self.new) }
+        ensures stays { IsErr result → self.new ≡ self.old }
+    {
+        let Ok(anew) = self.anew(alloc, file) else {
+            return Err(Unfit::no_memory());
+        };
+        let Ok(legs) = legs_on(alloc, &anew, number, shape, read) else {
+            return Err(Unfit::no_memory());
+        };
+        anew.trouble.forget();
+        *self = anew;
+        Ok(legs)
     }
 }
 

@@ -1,7 +1,8 @@
 //! A leg's file is opened anew while the server runs.
+ghost use Rattle.std.specs.Prelude.{IfOk, map};
+ghost use Rattle.nm_leg_files.specs.Files.{AreOfStripes, leg_place};
 
 use crate::counting_file::BytesRead;
-use crate::file_legs::legs_on;
 use crate::identities::identity_by;
 use crate::late_slots::LateSlots;
 use crate::leg_file::LegFile;
@@ -11,7 +12,6 @@ use crate::leg_place::{LegPlace, are_one};
 use crate::superblock_writer::SuperblockWriter;
 use crate::unfit::Unfit;
 use nm_geometry::Shape;
-use std::alloc::Global;
 use std::fs::{File, TryLockError};
 use std::sync::Wait;
 
@@ -57,27 +57,22 @@ impl LegPlace {
     pub fn renew<R: Wait, O: OpensLegs>(
         &self,
         rt: &R,
-        alloc: Global,
         opener: &O,
         number: usize,
         shape: &Shape,
         read: &BytesRead,
-    ) -> Result<Vec<Leg>, Unfit> {
+    ) -> Result<Vec<Leg>, Unfit>
+        ensures { IfOk result (λ legs. AreOfStripes shape.now
+            (map (λ leg. leg_place leg.medium leg.stripe leg.shape) legs.items)) }
+    {
         let mut held = self.file.lock(rt);
         if held.shared.file().has_left() {
             return Err(Unfit::CallLeft);
         }
         let file = self.open_anew(opener, &held)?;
-        let Ok(anew) = held.anew(alloc, file) else {
-            return Err(Unfit::no_memory());
-        };
-        let Ok(legs) = legs_on(alloc, &anew, number, shape, read) else {
-            return Err(Unfit::no_memory());
-        };
-        anew.trouble.forget();
+        let legs = held.renew(self.alloc, file, number, shape, read)?;
         // Its superblock's file is made anew too.
         *self.superblock.lock(rt) = None;
-        *held = anew;
         Ok(legs)
     }
 

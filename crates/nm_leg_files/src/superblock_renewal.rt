@@ -1,5 +1,7 @@
 //! A leg that is replaced gets a superblock's file of its own, and a new id.
-ghost use Rattle.std.specs.Prelude.{◌≢◌};
+ghost use Rattle.std.specs.Prelude.{◌≡◌, ◌≢◌, IfErr, IfOk};
+ghost use Rattle.nm_leg_files.specs.Renewing.{IsLeftOrGone, IsRenewed};
+ghost use Rattle.nm_saves.specs.Renewing.{LetsGo};
 
 use crate::blank_files::{blank_file, blank_window, no_memory};
 use crate::late_slots::LateSlots;
@@ -38,7 +40,11 @@ impl SuperblockWriter<LateSlots> {
         leg: u8,
         held: Option<&File>,
         limit: &CallLimit,
-    ) -> Result<(), Unopened> {
+    ) -> Result<(), Unopened>
+        ensures ok { IfOk result (λ _. LetsGo leg self.old.files self.new.files) }
+        ensures err { IfErr result (λ _. IsLeftOrGone leg self.old.files self.new.files) }
+        ensures others { self.new ≡ record self.old { files = self.new.files } }
+    {
         let at = leg as usize;
         if at >= 8 || at >= self.files.legs() || at >= self.names.len() {
             return Err(Unopened::Cut);
@@ -105,8 +111,9 @@ impl SuperblockWriter<LateSlots> {
     }
 
     /// Lets the leg's superblock go, makes its file anew with none in it, and gives the leg a new
-    /// id, and the identity that it has in these: what is saved from now on has them. Nothing is
-    /// saved beside the leg where this fails. The leg's own file is open.
+    /// id, and the identity that it has in these: what is saved from now on has them. Where this
+    /// fails the superblock is as it was, or was let go: then nothing is saved beside the leg. The
+    /// leg's own file is open.
     pub fn renew_leg<O: OpensLegs>(
         &mut self,
         opener: &O,
@@ -114,7 +121,11 @@ impl SuperblockWriter<LateSlots> {
         identities: &LegIdentities,
         own: &File,
         limit: &CallLimit,
-    ) -> Result<(), Unopened> {
+    ) -> Result<(), Unopened>
+        ensures ok { IfOk result (λ _. IsRenewed leg identities.now self.old.files self.new.files) }
+        ensures err { IfErr result (λ _. IsLeftOrGone leg self.old.files self.new.files) }
+        ensures others { self.new ≡ record self.old { files = self.new.files } }
+    {
         let at = leg as usize;
         if at >= 8 || at >= self.files.legs() || at >= self.names.len() {
             return Err(Unopened::Cut);
