@@ -41,21 +41,14 @@ fn put_reopen<R: Wait, L: LegPart, G: Gate + Drop, J: Naming, N: RenewsLegs<L>, 
     stripe: Option<u32>,
     text: &mut String,
 ) -> Result<(), AllocError> {
-    let stripes = server.mirror.shape().stripes;
-    let (first, end) = match stripe {
-        Some(stripe) if stripe >= stripes => return text.push_str("bad command\n"),
-        Some(stripe) => (stripe, stripe.saturating_add(1)),
-        None => (0, stripes),
+    let all = server.mirror.shape().stripes;
+    let stripes = match stripe {
+        Some(stripe) if stripe >= all => return text.push_str("bad command\n"),
+        Some(stripe) => stripe..stripe.saturating_add(1),
+        None => 0..all,
     };
-    let counts = reopen(
-        rt,
-        alloc,
-        server.mirror,
-        server.maker,
-        server.orders,
-        first,
-        end,
-    );
+    let (mirror, maker) = (server.mirror, server.maker);
+    let counts = reopen(rt, alloc, mirror, maker, server.orders, stripes);
     writeln!(
         text,
         "reopen: opened {} left {} stopped {}",

@@ -7,6 +7,7 @@ use nm_leg::LegPart;
 use nm_leg_files::MakesLegs;
 use nm_mirror::{Mirror, Naming, Reopened};
 use std::alloc::Global;
+use std::ops::Range;
 use std::sync::Wait;
 
 /// What came of stripes that were to be opened anew.
@@ -53,22 +54,21 @@ fn reopen_one<R: Wait, L: LegPart, G: Gate + Drop, J: Naming, M: MakesLegs<L>>(
     }
 }
 
-/// Tries a save again that could not be done, and opens each of the stripes from the first to the
-/// one before the end anew that has stopped. Then copies begin again: what could not be saved held
-/// them up, and the legs of a stripe that was opened join with all of their blocks.
+/// Tries a save again that could not be done, and opens each of these stripes anew that has
+/// stopped. Then copies begin again: what could not be saved held them up, and the legs of a stripe
+/// that was opened join with all of their blocks.
 pub fn reopen<R: Wait, L: LegPart, G: Gate + Drop, J: Naming, M: MakesLegs<L>>(
     rt: &R,
     alloc: Global,
     mirror: &Mirror<L, G, J>,
     maker: &M,
     orders: &CopyOrders,
-    first: u32,
-    end: u32,
+    stripes: Range<u32>,
 ) -> ReopenCounts {
     let is_saved = mirror.save_again(rt);
     let mut counts = ReopenCounts::default();
-    let stripes = mirror.shape().stripes.min(end);
-    for stripe in first..stripes {
+    let end = stripes.end.min(mirror.shape().stripes);
+    for stripe in stripes.start..end {
         counts.count(reopen_one(rt, alloc, mirror, maker, stripe));
     }
     if counts.opened > 0 {
