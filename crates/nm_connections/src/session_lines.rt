@@ -2,9 +2,9 @@
 
 use crate::client_stream::ClientStream;
 use crate::served_client::Closing;
-use nm_reports::{Incident, LogLines};
+use crate::serving_state::Shared;
+use nm_reports::Incident;
 use nm_session::{End, ServeFault};
-use std::alloc::Global;
 use std::sync::Wait;
 use std::time::Clock;
 
@@ -18,9 +18,10 @@ pub enum SessionEnd {
 }
 
 /// Tells that a session begins.
-pub fn tell_begin<R: Wait>(rt: &R, alloc: Global, client: &ClientStream, lines: &LogLines) {
+pub fn tell_begin<R: Wait>(rt: &R, shared: &Shared<'_>, client: &ClientStream) {
+    let alloc = shared.alloc;
     let (number, address) = (client.number, client.address);
-    lines.inform(
+    shared.lines.inform(
         rt,
         format!(in alloc; "client {address}: session {number} begins"),
     );
@@ -39,24 +40,19 @@ fn words_of(end: SessionEnd, closing: Option<Closing>) -> &'static str {
 }
 
 // Tells that a client was closed since it asked for nothing for so many seconds.
-fn tell_idle<R: Wait>(
-    rt: &R,
-    alloc: Global,
-    client: &ClientStream,
-    seconds: u64,
-    lines: &LogLines,
-) {
-    let address = client.address;
-    lines.warn(
+fn tell_idle<R: Wait>(rt: &R, shared: &Shared<'_>, client: &ClientStream, seconds: u64) {
+    let (alloc, address) = (shared.alloc, client.address);
+    shared.lines.warn(
         rt,
         format!(in alloc; "client {address}: idle for {seconds} s: closed"),
     );
 }
 
 // Tells what ended a session that no fault broke off.
-fn tell_well<R: Wait>(rt: &R, alloc: Global, client: &ClientStream, words: &str, lines: &LogLines) {
+fn tell_well<R: Wait>(rt: &R, shared: &Shared<'_>, client: &ClientStream, words: &str) {
+    let alloc = shared.alloc;
     let (number, address) = (client.number, client.address);
-    lines.inform(
+    shared.lines.inform(
         rt,
         format!(in alloc; "client {address}: session {number} ended: {words}"),
     );
@@ -66,26 +62,24 @@ fn tell_well<R: Wait>(rt: &R, alloc: Global, client: &ClientStream, words: &str,
 /// otherwise where sessions are logged.
 pub fn tell_end<R: Wait + Clock>(
     rt: &R,
-    alloc: Global,
+    shared: &Shared<'_>,
     client: &ClientStream,
     ended: Result<SessionEnd, ServeFault>,
     closing: Option<Closing>,
-    is_verbose: bool,
-    lines: &LogLines,
 ) {
-    let address = client.address;
+    let (alloc, lines, address) = (shared.alloc, shared.lines, client.address);
     match (closing, ended) {
         (Some(Closing::Kick), _) => {
             lines.warn(rt, format!(in alloc; "client {address}: closed by kick"));
         }
-        (Some(Closing::Idle(seconds)), _) => tell_idle(rt, alloc, client, seconds, lines),
+        (Some(Closing::Idle(seconds)), _) => tell_idle(rt, shared, client, seconds),
         (_, Err(fault)) => {
             let text = format!(in alloc; "client {address}: a session broke off: {fault}");
             lines.warn_of(rt, Incident::SessionFailed, text);
         }
         (closing, Ok(end)) => {
-            if is_verbose {
-                tell_well(rt, alloc, client, words_of(end, closing), lines);
+            if shared.state.places.is_verbose() {
+                tell_well(rt, shared, client, words_of(end, closing));
             }
         }
     }

@@ -263,21 +263,19 @@ pub fn serve_place<R, J: Naming + Send + Sync>(
 where
     R: Threads + Wait + Sync + Copy + Clock,
 {
-    let (alloc, state, lines) = (shared.alloc, shared.state, shared.lines);
-    let (places, metrics) = (&state.places, &state.metrics);
+    let (places, metrics) = (&shared.state.places, &shared.state.metrics);
     for _ in rt.forever() {
         let Some(client) = places.take(rt, number) else {
             return;
         };
         if places.is_verbose() {
-            tell_begin(rt, alloc, &client, lines);
+            tell_begin(rt, shared, &client);
         }
         metrics.begin_session();
         let ended = serve_client(rt, &client, export, passes, shared, number);
         metrics.end_session(ended.is_ok());
         let closing = places.free(rt, number);
-        let is_verbose = places.is_verbose();
-        tell_end(rt, alloc, &client, ended, closing, is_verbose, lines);
+        tell_end(rt, shared, &client, ended, closing);
         let _ = client.stream.shutdown(Shutdown::Write);
     }
 }
