@@ -1,5 +1,5 @@
 -- The exit statuses of the server.
-use Rattle.std.specs.Prelude.{ℕ}
+use Rattle.std.specs.Prelude.{◌≡◌, ◌⊎◌, ◌≤◌, ℕ}
 use Rattle.clap.specs.declared.error.kind.ErrorKind.{ErrorKind}
 use Rattle.clap.specs.declared.error.kind.ErrorKind.TheVariants.{DisplayHelp, DisplayVersion}
 use Rattle.clap.specs.declared.error.kind.ErrorKind.TheVariants.{OutOfMemory}
@@ -70,3 +70,11 @@ status_of_words DisplayHelp = 0
 status_of_words DisplayVersion = 0
 status_of_words OutOfMemory = 5
 status_of_words other = 2
+
+-- an exit status by which the server tells that it did not start, or did not end well
+abbrev pub TellsFault : ℕ → Type 0
+TellsFault status = (2 ≤ status) × (status ≤ 8)
+
+-- an exit status of the server
+abbrev pub IsExitStatus : ℕ → Type 0
+IsExitStatus status = (status ≡ 0) ⊎ TellsFault status

@@ -1,5 +1,5 @@
 ghost use Rattle.std.specs.Prelude.{◌≡◌};
-ghost use Rattle.nm_reports.specs.StartFault.{status_of};
+ghost use Rattle.nm_reports.specs.StartFault.{TellsFault, status_of};
 ghost use Rattle.nm_reports.specs.declared.start_fault.StartFault.TheVariants.{Memory};
 
 use crate::address::Port;
@@ -196,7 +196,8 @@ pub enum StartFault {
 impl StartFault {
     /// The exit status.
     pub fn status(&self) -> u8
-        ensures { result ≡ status_of self.now }
+        ensures status { result ≡ status_of self.now }
+        ensures fault { TellsFault result }
     {
         match self {
             StartFault::NotUtf8

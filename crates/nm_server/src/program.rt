@@ -1,6 +1,7 @@
 //! The whole program: from its command line to its exit status.
 ghost use Rattle.std.specs.Prelude.{◌≡◌};
 ghost use Rattle.clap.specs.Values.{kind_of};
+ghost use Rattle.nm_reports.specs.StartFault.{IsExitStatus, TellsFault};
 ghost use Rattle.nm_reports.specs.StartFault.{status_of, status_of_words};
 
 use crate::absent::tell_absent;
@@ -26,7 +27,8 @@ use std::time::Clock;
 
 // Tells why the server does not start or does not end well. What cannot be written is lost.
 fn tell_fault<E: Write>(fault: &StartFault, err: &mut E) -> u8
-    ensures { result ≡ status_of fault.now }
+    ensures status { result ≡ status_of fault.now }
+    ensures fault { TellsFault result }
 {
     let _ = writeln!(err, "{fault}");
     let _ = err.flush();
@@ -41,7 +43,8 @@ fn tell_ended<P: OpensLegs, E: Write>(
     fault: &StartFault,
     err: &mut E,
 ) -> u8
-    ensures { result ≡ status_of fault.now }
+    ensures status { result ≡ status_of fault.now }
+    ensures fault { TellsFault result }
 {
     let _ = tell_reason(alloc, fault, settings, err);
     let _ = tell_absent(alloc, opener, fault, settings, err);
@@ -62,7 +65,8 @@ fn tell_text<W: Write>(error: &Error, to: &mut W, status: u8) -> u8
 // Tells why the words are no command line, or what they ask for: the help and the version are no
 // error.
 fn tell_words<O: Write, E: Write>(error: &Error, out: &mut O, err: &mut E) -> u8
-    ensures { result ≡ status_of_words (kind_of error.now) }
+    ensures status { result ≡ status_of_words (kind_of error.now) }
+    ensures exit { IsExitStatus result }
 {
     match error.kind() {
         ErrorKind::OutOfMemory => tell_fault(&StartFault::Memory, err),
@@ -85,7 +89,9 @@ fn ask_for_table<S: AsStr>(words: &[S]) -> bool {
 }
 
 /// Tells why the words of the command line could not be had, and returns the exit status.
-pub fn refuse_words<E: Write>(error: &io::Error, err: &mut E) -> u8 {
+pub fn refuse_words<E: Write>(error: &io::Error, err: &mut E) -> u8
+    ensures { TellsFault result }
+{
     if error.kind() == IoErrorKind::OutOfMemory {
         return tell_fault(&StartFault::Memory, err);
     }
@@ -122,6 +128,7 @@ where
         + Files<File = File>
         + Net<Listener = TcpListener, Stream = TcpStream>
         + 'static,
+    ensures { IsExitStatus result }
 {
     let limits = match limits_of(rt, alloc) {
         Ok(limits) => limits,
