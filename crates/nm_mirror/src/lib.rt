@@ -36,8 +36,10 @@ pub use sight::Sight;
 pub use status::{LegStatus, StripeStatus};
 pub use stripe_end::{Past, StripeEnd};
 pub use totals::Totals;
+pub use trail::{EmptyLog, OpenedLog};
 
 mod ask;
+mod astray;
 mod bounds;
 mod calls;
 mod claiming;
@@ -76,6 +78,7 @@ mod sight;
 mod status;
 mod stripe_end;
 mod totals;
+mod trail;
 mod unclaimed;
 mod verify;
 mod whole;
