@@ -4,13 +4,17 @@ mod GlanceLemmas
 mod HeldLemmas
 mod ListLemmas
 mod MarkedLemmas
+mod NotedLemmas
 mod NumberLemmas
 mod OneInSync
+mod OneWay
 mod OpenedLemmas
 mod OpeningLemmas
 mod Places
+mod PushedLemmas
 mod ReopenLemmas
 mod RoundLemmas
 mod SaveLemmas
 mod StatusLemmas
 mod TakingLemmas
+mod TrailLemmas

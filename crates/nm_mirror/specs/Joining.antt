@@ -1,9 +1,10 @@
 -- Lists of steps of a lane, one after the other, are one.
-use Rattle.std.specs.Prelude.{◌≡◌, ◌⊎◌, ℕ, List, [], ◌∷◌, ◌++◌, Bool, true, false, map, refl}
-use Rattle.std.proofs.Common.{inl, inr, ⊎_elim, sym, ap, subst, ◌∙◌, append_assoc, eqb}
+use Rattle.std.specs.Prelude.{◌≡◌, ◌⊎◌, ℕ, List, [], ◌∷◌, ◌++◌, refl}
+use Rattle.std.proofs.Common.{inl, inr, ⊎_elim, sym, ap, subst, ◌∙◌, append_assoc}
 use Rattle.std.proofs.lemmas.List.{append-nil}
 use Rattle.nm_book.specs.declared.rule.Entry.{Entry}
-use Rattle.nm_book.specs.Log.{IsLegal, PassView, calls_by}
+use Rattle.nm_book.specs.Log.{PassView, calls_by}
+use Rattle.nm_book.proofs.Lists.{calls_append}
 use Rattle.nm_history.specs.declared.transition.Transition.{Transition}
 use Rattle.nm_history.specs.History.{LegalMoves}
 use Rattle.nm_lanes.specs.Done.{Done}
@@ -17,18 +18,7 @@ use Rattle.nm_stripe.specs.declared.answer.Answer.{Answer}
 use Rattle.nm_stripe.specs.declared.answer.Answer.TheVariants.{Value, Written}
 
 module _ {E : Type 0} where
-  -- the entries of one pass, of two lists
-  pub calls-append : (by : ℕ) (xs ys : List (Entry E))
-      → calls_by by (xs ++ ys) ≡ calls_by by xs ++ calls_by by ys
-  calls-append by [] ys = refl
-  calls-append by (e ∷ xs) ys = step (eqb e.by by) refl (calls-append by xs ys)
-    where
-      step : (b : Bool) → eqb e.by by ≡ b
-          → calls_by by (xs ++ ys) ≡ calls_by by xs ++ calls_by by ys
-          → calls_by by ((e ∷ xs) ++ ys) ≡ calls_by by (e ∷ xs) ++ calls_by by ys
-      step true t ih = rw t (ap (λ (l : List (Entry E)). e ∷ l) ih)
-      step false t ih = rw t ih
-
+  -- the entries of two lists, one after the other
   pub entries-append : (by shard : ℕ) (xs ys : List E)
       → entries by shard (xs ++ ys) ≡ entries by shard xs ++ entries by shard ys
   entries-append by shard [] ys = refl
@@ -56,7 +46,7 @@ module _ {E : Type 0} where
       who = there.who ∙ here.who;
       seen = there.seen ∙ ap (λ (l : List (Entry E)). l ++ there.more) here.seen
           ∙ append_assoc old.seen here.more there.more;
-      own = calls-append old.who here.more there.more
+      own = calls_append old.who here.more there.more
           ∙ ap (λ (l : List (Entry E)). l ++ calls_by old.who there.more) here.own
           ∙ ap (λ (l : List (Entry E)). entries old.who shard xs ++ l) own-there
           ∙ sym (entries-append old.who shard xs ys);

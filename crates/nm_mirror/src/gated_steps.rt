@@ -12,7 +12,7 @@ ghost use Rattle.nm_mirror.specs.declared.ask.Ask.TheVariants as ask;
 ghost use Rattle.nm_stripe.specs.Read.{LeavesTarget};
 ghost use Rattle.nm_stripe.specs.declared.step.Step.TheVariants as step;
 
-use crate::astray::is_astray;
+use crate::astray::{has_gone_astray, is_astray};
 use crate::held::Held;
 use crate::trail::{LogPass, Plans};
 use nm_book::Naming;
@@ -66,10 +66,9 @@ impl<L: LegPart, J: Naming> Held<L, J> {
         ensures handed_back { HandsBack «data» result }
     {
         let begun = part.begin(&mut self.gated.stripe, block, data);
-        match &begun {
-            Err((Refusal::Astray, _)) => (),
-            _ => self.trail.note::<Brand, _>(pass, &self.gated, &begun),
-        }
+        let is_made = !has_gone_astray(&begun);
+        self.trail
+            .note_if::<Brand, _>(is_made, pass, &self.gated, &begun);
         begun
     }
 
@@ -89,9 +88,9 @@ impl<L: LegPart, J: Naming> Held<L, J> {
             (answer_of_push result) part.old (self.old, self.new) }
     {
         let reach = part.push(&mut self.gated.stripe, ticket, leg);
-        if !is_astray(&reach) {
-            self.trail.note::<Brand, _>(pass, &self.gated, &(ticket, leg, &reach));
-        }
+        let is_made = !is_astray(&reach);
+        self.trail
+            .note_if::<Brand, _>(is_made, pass, &self.gated, &(ticket, leg, &reach));
         reach
     }
 
@@ -132,10 +131,9 @@ impl<L: LegPart, J: Naming> Held<L, J> {
         ensures target { LeavesTarget result into.old into.new }
     {
         let read = part.read(&mut self.gated.stripe, block, into);
-        if !is_astray(&read) {
-            self.trail
-                .note::<Brand, _>(pass, &self.gated, &(&read, &*into));
-        }
+        let is_made = !is_astray(&read);
+        self.trail
+            .note_if::<Brand, _>(is_made, pass, &self.gated, &(&read, &*into));
         read
     }
 
@@ -155,9 +153,9 @@ impl<L: LegPart, J: Naming> Held<L, J> {
             (answer_of_claim result) part.old (self.old, self.new) }
     {
         let claimed = part.claim(&mut self.gated.stripe, ticket);
-        if !is_astray(&claimed) {
-            self.trail.note::<Brand, _>(pass, &self.gated, &(ticket, &claimed));
-        }
+        let is_made = !is_astray(&claimed);
+        self.trail
+            .note_if::<Brand, _>(is_made, pass, &self.gated, &(ticket, &claimed));
         claimed
     }
 
@@ -177,9 +175,9 @@ impl<L: LegPart, J: Naming> Held<L, J> {
             (answer_of_sync result) part.old (self.old, self.new) }
     {
         let syncing = part.flush(&mut self.gated.stripe, leg);
-        if !is_astray(&syncing) {
-            self.trail.note::<Brand, _>(pass, &self.gated, &(leg, &syncing));
-        }
+        let is_made = !is_astray(&syncing);
+        self.trail
+            .note_if::<Brand, _>(is_made, pass, &self.gated, &(leg, &syncing));
         syncing
     }
 
@@ -201,10 +199,9 @@ impl<L: LegPart, J: Naming> Held<L, J> {
             (answer_of_copy result) part.old (self.old, self.new) }
     {
         let copying = part.copy(&mut self.gated.stripe, leg, most, from);
-        if !is_astray(&copying) {
-            self.trail
-                .note::<Brand, _>(pass, &self.gated, &(leg, most, from, &copying));
-        }
+        let is_made = !is_astray(&copying);
+        self.trail
+            .note_if::<Brand, _>(is_made, pass, &self.gated, &(leg, most, from, &copying));
         copying
     }
 }

@@ -94,6 +94,20 @@ impl<L: LegPart, J: Naming> Held<L, J> {
         }
     }
 
+    /// Whether a stripe that stopped may open anew at this place, on so many legs.
+    fn may_reopen(&self, place: At, legs: usize) -> bool
+        ensures stopped { IsTrue result → self.now.gated.stripe.stopped ≡ true }
+        ensures place { IsTrue result → self.now.gated.stripe.place ≡ place }
+        ensures master { IsTrue result → self.now.gated.stripe.master < legs }
+        ensures alone { IsTrue result → NamesAtMost (length self.now.gated.stripe.legs)
+            self.now.gated.stripe.master self.now.gated.durable }
+    {
+        self.gated.stripe.is_stopped()
+            && self.gated.stripe.place() == place
+            && (self.gated.stripe.master() as usize) < legs
+            && self.names_at_most_the_master()
+    }
+
     /// Opens a stripe that stopped anew, at its place and on these legs: from the leg it stopped
     /// on. Whether it did: not where it runs, where that is not its place, where the superblock may
     /// call another leg in sync, or where memory is refused. Then nothing changes.
@@ -108,14 +122,10 @@ impl<L: LegPart, J: Naming> Held<L, J> {
             self.old.gated.durable }
         ensures stays { result ≡ false → self.new ≡ self.old }
     {
-        let master = self.gated.stripe.master();
-        if !self.gated.stripe.is_stopped()
-            || self.gated.stripe.place() != place
-            || master as usize >= legs.len()
-            || !self.names_at_most_the_master()
-        {
+        if !self.may_reopen(place, legs.len()) {
             return false;
         }
+        let master = self.gated.stripe.master();
         let end = self.gated.stripe.end();
         let first = self.gated.stripe.next_number();
         match Stripe::open(alloc, place, legs, only_bit::<L>(master), first, policy) {

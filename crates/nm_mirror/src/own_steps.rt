@@ -29,7 +29,7 @@ ghost use Rattle.nm_verify.specs.Looks.{Begins, Sees};
 
 use crate::held::Held;
 use crate::save_order::SaveOrder;
-use crate::trail::{Clearing, Plans, Saving};
+use crate::trail::{Clearing, Plans};
 use nm_book::Naming;
 use nm_gate::LegClaims;
 use nm_leg::LegPart;
@@ -200,9 +200,7 @@ impl<L: LegPart, J: Naming> Held<L, J> {
     {
         self.gated.stripe.keeps();
         let claims = self.gated.begin_save(marked);
-        if self.gated.durable.is_some() {
-            self.trail.note_own::<Saving, _>(&self.gated, &());
-        }
+        self.trail.note_save(&self.gated);
         claims
     }
 
@@ -218,9 +216,7 @@ impl<L: LegPart, J: Naming> Held<L, J> {
         self.gated.stripe.keeps();
         let claims = order.claims_on(self.gated.stripe.number());
         self.gated.end_save(claims, &order.spans);
-        if self.gated.durable.is_some() {
-            self.trail.note_own::<Saving, _>(&self.gated, &());
-        }
+        self.trail.note_save(&self.gated);
     }
 
     /// Says that a save could not be done.
@@ -232,9 +228,7 @@ impl<L: LegPart, J: Naming> Held<L, J> {
         ensures others { self.new ≡ with_gated self.new.gated self.old }
     {
         self.gated.fail_save();
-        if self.gated.durable.is_some() {
-            self.trail.note_own::<Saving, _>(&self.gated, &());
-        }
+        self.trail.note_save(&self.gated);
     }
 
     /// Clears all marks, once each leg was synced since they might be cleared so.

@@ -1,12 +1,13 @@
 //! What is noted of a stripe in the log of the mirror.
 ghost use Rattle.std.specs.Prelude.{◌≡◌, [], ◌∷◌, Some};
 ghost use Rattle.nm_book.specs.Log.{IsLegal, shard_of};
+ghost use Rattle.nm_gate.specs.Changes.{Resaved};
 ghost use Rattle.nm_gate.specs.declared.gated_stripe.GatedStripe.{GatedStripe};
 ghost use Rattle.nm_history.specs.History.{LegalMoves};
 ghost use Rattle.nm_history.specs.Lost.{none_lost};
 ghost use Rattle.nm_history.specs.Moves.{MoveOf};
 ghost use Rattle.nm_leg.specs.Leg.{leg_type};
-ghost use Rattle.nm_mirror.specs.Trail.{NotesAll};
+ghost use Rattle.nm_mirror.specs.Trail.{MadeIf, NotesAll, noted_if};
 
 use nm_book::{Book, Keeper, Maker, Naming, Notes, Opened};
 use nm_gate::GatedStripe;
@@ -161,14 +162,31 @@ impl<L: LegPart, J: Naming> Trail<L, J> {
         self.book.pass()
     }
 
-    /// Notes through this pass the move that led here. What it says is told by `about`.
+    /// Notes through this pass the move that led here, if one was made. What it says is told by
+    /// `about`.
     #[inline(always)]
-    pub(crate) fn note<N: Tells<L>, X>(
+    pub(crate) fn note_if<N: Tells<L>, X>(
         &mut self,
+        is_made: bool,
         pass: &mut LogPass<L, J>,
         to: &GatedStripe<L>,
         _about: &X,
     )
+        requires { (from : GatedStripe L) × (self.old ≡ Some from)
+            × MadeIf (leg_type L.model L.honest) is_made N.made from to.now }
+        ensures to { self.new ≡ Some to.now }
+        ensures notes { NotesAll (LegalMoves (leg_type L.model L.honest))
+            to.now.stripe.place.stripe
+            (noted_if is_made (record { made = N.made; to = to.now })) pass.old pass.new }
+    {
+        if is_made {
+            self.note::<N>(pass, to);
+        }
+    }
+
+    // Notes through this pass the move that led here.
+    #[inline(always)]
+    fn note<N: Tells<L>>(&mut self, pass: &mut LogPass<L, J>, to: &GatedStripe<L>)
         requires { (from : GatedStripe L) × (self.old ≡ Some from)
             × MoveOf (leg_type L.model L.honest) none_lost N.made from to.now }
         ensures to { self.new ≡ Some to.now }
@@ -194,5 +212,17 @@ impl<L: LegPart, J: Naming> Trail<L, J> {
         };
         let noted = self.book.note::<GatedStripe<L>, Told<N>>(&mut self.own, keeper, to);
         self.keeper = Some(noted);
+    }
+
+    /// Notes that a save begins, ends or fails, where there is a superblock.
+    pub(crate) fn note_save(&mut self, to: &GatedStripe<L>)
+        requires { (from : GatedStripe L) × (self.old ≡ Some from)
+            × (to.now.stripe ≡ from.stripe)
+            × Resaved from.stripe from.durable to.now.durable }
+        ensures { self.new ≡ Some to.now }
+    {
+        if to.durable.is_some() {
+            self.note_own::<Saving, _>(to, &());
+        }
     }
 }

@@ -7,5 +7,5 @@ use Rattle.nm_mirror.proofs.part_lane.PartLaneLaneLock.claim.Goals as goal
 
 pub claim-requires : goal.claim-requires
 claim-requires g c =
-    subst (λ (held : Held _ _). LetsPass held.gated.durable held.gated.stripe Answer)
+    subst (λ (held : Held _ _ _). LetsPass held.gated.durable held.gated.stripe Answer)
     (sym c.deref_mut.ensures.value) c.in-Some.ensures.passes
