@@ -14,8 +14,9 @@ use Rattle.nm_history.specs.Moves.{JoinsMarked, MoveOf}
 use Rattle.nm_lanes.specs.Answers.{answer_of_push}
 use Rattle.nm_lanes.specs.Done.{Done, done_as}
 use Rattle.nm_leg.specs.Leg.{LegType}
-use Rattle.nm_mirror.specs.Counting.{Follows}
-use Rattle.nm_mirror.specs.LaneState.{lane_of}
+use Rattle.nm_mirror.specs.Counting.{Follows, IsGone, IsNotSaved, WasNotAsked}
+use Rattle.nm_mirror.specs.Joining.{notes-none}
+use Rattle.nm_mirror.specs.LaneState.{LaneState, lane_of}
 use Rattle.nm_mirror.specs.Trail.{MadeIf, NotesAll, noted_if}
 use Rattle.nm_mirror.proofs.TrailLemmas.{told}
 use Rattle.nm_part.specs.Asking.{AsksStripe, GoesAstray, GoesOn, MayAsk}
@@ -136,3 +137,19 @@ is-made false tells made is = let on : false ≡ true = tells.1 is in cc
 pub not-made : {P : Type 0} (b : Bool) → ((b ≡ true → P) × (P → b ≡ true)) → not b ≡ false → P
 not-made true tells made = tells.0 refl
 not-made false tells made = absurd (cc)
+
+module _ {L : Type 0} (type : LegType L) (lane : LaneState L) (done : Done L) where
+  -- what no stripe was asked for is not noted, and leaves the lane as it is
+  not-asked : part_after done.answer lane.part ≡ lane.part → WasNotAsked type lane.part done → Follows type lane (done ∷ []) lane
+  not-asked stays not = record {
+    counted = sym stays;
+    made = [];
+    noted = inr (not, refl);
+    log = notes-none (LegalMoves type) lane.part.stripe lane.pass;
+  }
+
+  pub not-saved : IsNotSaved done → Follows type lane (done ∷ []) lane
+  not-saved is = not-asked (ap (λ (a : Answer L). part_after a lane.part) is.1) (inl is)
+
+  pub gone : IsGone done → Follows type lane (done ∷ []) lane
+  gone is = not-asked (ap (λ (a : Answer L). part_after a lane.part) is.2) (inr (inl is))

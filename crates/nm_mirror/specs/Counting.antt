@@ -40,8 +40,8 @@ abbrev pub IsGone : {L : Type 0} → Done L → Type 0
 IsGone {L} done =
     (ticket : ℕ) × (done.step ≡ Claim ticket) × (done.answer ≡ Refused NoTicket Nothing)
 
--- no stripe was asked for the step: the one that was held is not the part's, has no such run or leg,
--- or the part has no room to count
+-- no stripe was asked for the step: the one that was held is not the part's, or has no such run or
+-- leg, or the part has no room to count
 pub record IsAstray {L : Type 0} (type : LegType L) (part : PartState) (done : Done L)
     : Type 0 where
   pub stripe : StripeState L

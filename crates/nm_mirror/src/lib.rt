@@ -36,7 +36,7 @@ pub use sight::Sight;
 pub use status::{LegStatus, StripeStatus};
 pub use stripe_end::{Past, StripeEnd};
 pub use totals::Totals;
-pub use trail::{EmptyLog, OpenedLog};
+pub use trail::{EmptyLog, OpenedLog, open_log};
 
 mod ask;
 mod astray;

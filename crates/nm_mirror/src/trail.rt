@@ -13,6 +13,7 @@ use nm_book::{Book, Keeper, Maker, Naming, Notes, Opened};
 use nm_gate::GatedStripe;
 use nm_history::{Legal, Transition};
 use nm_leg::LegPart;
+use std::alloc::{AllocError, Global};
 use std::marker::{Brand, Model, PhantomData};
 use std::sync::Arc;
 
@@ -30,6 +31,11 @@ pub type StripeKeepers<L, J> = Maker<Transition<L>, J>;
 
 /// A log that is opened, and has no name yet.
 pub type OpenedLog<L> = Opened<Transition<L>, Legal<L>>;
+
+/// Opens a log.
+pub fn open_log<L: LegPart>(alloc: Global) -> Result<OpenedLog<L>, AllocError> {
+    Opened::new(alloc)
+}
 
 /// The log of a mirror of which nothing is noted yet, and who makes the keepers of its shards.
 #[derive(Drop)]

@@ -9,7 +9,7 @@ use nm_connections::{Listener, ServingState, SessionRules, Shared, listen, liste
 use nm_control::LegRenewer;
 use nm_geometry::{MOST_LEGS, Shape};
 use nm_leg_files::{FileMirror, Leg, LegFiles, LegMaker, LegPlace, LegRules, OpensLegs};
-use nm_mirror::{Naming, Pass};
+use nm_mirror::{EmptyLog, Naming, OpenedLog, Pass, open_log};
 use nm_reports::{LogLines, Metrics, Port, StartFault};
 use nm_starts::{
     check_added, check_files, check_from, check_moved, check_shrink, reply_bytes_of, settle_place,
@@ -268,6 +268,7 @@ fn open_and_serve<J: Naming + Send + Sync, R, P: OpensLegs + Sync, O: Write>(
     limits: &Limits,
     out: &mut O,
     lines: &LogLines,
+    log: OpenedLog<Leg>,
 ) -> Result<(), StartFault>
 where
     R: Threads
@@ -280,6 +281,7 @@ where
         + Files<File = File>
         + Net<Listener = TcpListener, Stream = TcpStream>
         + 'static,
+    requires { log.table.shared.table_id ≡ J.table }
 {
     let (named, files) = find_export(rt, alloc, settings, limits)?;
     let listening = &settings.listening;
@@ -287,7 +289,15 @@ where
     let control = listen_beside(rt, alloc, listening, &clients)?;
     // Whatever may be refused is, before a superblock is made.
     let state = ready_state(rt, alloc, settings, limits, &files)?;
-    let opened: Opened<J> = open(rt, alloc, settings, files, &control.listener, lines)?;
+    let opened: Opened<J> = open(
+        rt,
+        alloc,
+        settings,
+        files,
+        &control.listener,
+        lines,
+        EmptyLog::of(log),
+    )?;
     warn_if_open(rt, alloc, &control.listener, listening.control, lines);
     clients.tell(out, "listening on");
     control.tell(out, "control on");
@@ -320,5 +330,8 @@ where
     let _streams = take_standard_streams(rt, alloc).ok_or(StartFault::NoStandardStreams)?;
     settle_place(rt, settings);
     sort_legs(rt, alloc, settings, lines)?;
-    open_and_serve::<Brand, R, P, O>(rt, alloc, opener, &*settings, limits, out, lines)
+    let Ok(log) = open_log(alloc) else {
+        return Err(StartFault::Memory);
+    };
+    open_and_serve::<Brand, R, P, O>(rt, alloc, opener, &*settings, limits, out, lines, log)
 }
