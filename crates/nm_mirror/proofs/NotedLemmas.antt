@@ -57,7 +57,7 @@ own-number part stripe is = elim (eqb_tells stripe.place.stripe part.stripe) [
       let gone : true ≡ false =
       subst (λ (t : Bool). ((not t || nat_lt (next_number stripe) part.front) || nat_lt (2 ^ 64 - 1) (part.count + 128)) ≡ false) miss.0 is in
       cc
-  )
+      )
 ]
 
 module _ {L : Type 0} (type : LegType L) (step : Step L) (answer : Answer L) where

@@ -52,7 +52,8 @@ impl<L: LegPart, J: Naming> Held<L, J> {
         ensures others { self.new ≡ with_stripe self.new.gated.stripe self.old }
     {
         let reach = self.gated.stripe.push(ticket, leg);
-        self.trail.note_own::<Brand, _>(&self.gated, &(ticket, leg, &reach));
+        self.trail
+            .note_own::<Brand, _>(&self.gated, &(ticket, leg, &reach));
         reach
     }
 
@@ -66,7 +67,8 @@ impl<L: LegPart, J: Naming> Held<L, J> {
         ensures others { self.new ≡ with_stripe self.new.gated.stripe self.old }
     {
         let claimed = self.gated.stripe.claim(ticket);
-        self.trail.note_own::<Brand, _>(&self.gated, &(ticket, &claimed));
+        self.trail
+            .note_own::<Brand, _>(&self.gated, &(ticket, &claimed));
         claimed
     }
 
@@ -81,7 +83,8 @@ impl<L: LegPart, J: Naming> Held<L, J> {
         ensures others { self.new ≡ with_stripe self.new.gated.stripe self.old }
     {
         let syncing = self.gated.stripe.flush(leg);
-        self.trail.note_own::<Brand, _>(&self.gated, &(leg, &syncing));
+        self.trail
+            .note_own::<Brand, _>(&self.gated, &(leg, &syncing));
         syncing
     }
 
@@ -98,7 +101,8 @@ impl<L: LegPart, J: Naming> Held<L, J> {
         ensures others { self.new ≡ with_stripe self.new.gated.stripe self.old }
     {
         let copying = self.gated.stripe.copy(leg, most, from);
-        self.trail.note_own::<Brand, _>(&self.gated, &(leg, most, from, &copying));
+        self.trail
+            .note_own::<Brand, _>(&self.gated, &(leg, most, from, &copying));
         copying
     }
 
@@ -115,7 +119,8 @@ impl<L: LegPart, J: Naming> Held<L, J> {
         ensures others { self.new ≡ with_stripe self.new.gated.stripe self.old }
     {
         let promotion = self.gated.stripe.promote(leg);
-        self.trail.note_own::<Brand, _>(&self.gated, &(leg, &promotion));
+        self.trail
+            .note_own::<Brand, _>(&self.gated, &(leg, &promotion));
         promotion
     }
 
@@ -129,7 +134,8 @@ impl<L: LegPart, J: Naming> Held<L, J> {
         ensures others { self.new ≡ with_stripe self.new.gated.stripe self.old }
     {
         let failing = self.gated.stripe.fail(leg);
-        self.trail.note_own::<Brand, _>(&self.gated, &(leg, &failing));
+        self.trail
+            .note_own::<Brand, _>(&self.gated, &(leg, &failing));
         failing
     }
 

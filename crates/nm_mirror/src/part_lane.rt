@@ -168,7 +168,8 @@ impl<L: LegPart, J: Naming> Lane<L, Lock<L, J>> for PartLane<L, J> {
             (done_as (step.Read block into.old) (answer_of_read result into.new) ∷ []) self.new }
         ensures target { LeavesTarget result into.old into.new }
     {
-        lock.hold(rt).read(&mut self.part, &mut self.pass, block, into)
+        lock.hold(rt)
+            .read(&mut self.part, &mut self.pass, block, into)
     }
 
     fn flush<R: Wait>(&mut self, rt: &R, lock: &Lock<L, J>, leg: u8) -> Result<Syncing, Refusal>

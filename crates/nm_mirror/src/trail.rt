@@ -216,7 +216,9 @@ impl<L: LegPart, J: Naming> Trail<L, J> {
         let Some(keeper) = self.keeper.take() else {
             unreachable!()
         };
-        let noted = self.book.note::<GatedStripe<L>, Told<N>>(&mut self.own, keeper, to);
+        let noted = self
+            .book
+            .note::<GatedStripe<L>, Told<N>>(&mut self.own, keeper, to);
         self.keeper = Some(noted);
     }
 

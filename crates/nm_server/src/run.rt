@@ -1,5 +1,6 @@
 //! A run of the server: what the settings ask for is found, opened, served until a `quit`, and
 //! ended.
+ghost use Rattle.std.specs.Prelude.{◌≡◌};
 
 use crate::equipment::{Equipment, Opened, metrics_of, open};
 use crate::serving::{Copying, Server};

@@ -346,7 +346,16 @@ where
         is_compared: by.is_compared,
     };
     let opened = if by.is_first || by.is_compared {
-        open_watched(rt, alloc, settings, files, meanwhile, lines, Some(kept), log)?
+        open_watched(
+            rt,
+            alloc,
+            settings,
+            files,
+            meanwhile,
+            lines,
+            Some(kept),
+            log,
+        )?
     } else {
         open_image(rt, alloc, &settings.mirror, files, kept, log)?
     };

@@ -18,6 +18,6 @@ loop-gated-preserved g c =
       search rules,
       search rules,
       one-locked (λ lock. lock.number) (λ gated. gated.stripe.place.stripe) c.loop-gated.locks.items c.push_reserved.new.self.items c.new.result c.loop-gated.rest.items c.pop.new.self.items c.in-Some.gated
-      (map (λ gated. gated.stripe.place.stripe) c.args.stripes.items) c.loop-gated.invariant.3 last c.new.ensures c.push_reserved.ensures.items,
+          (map (λ gated. gated.stripe.place.stripe) c.args.stripes.items) c.loop-gated.invariant.3 last c.new.ensures c.push_reserved.ensures.items,
       search rules,
     )

@@ -18,9 +18,9 @@ note_if-requires g c =
       held.gated,
       held.leads,
       asks-made type (step.Push c.args.ticket c.args.leg) (answer_of_push p.result) (not a.result) c.args.part.now held.gated p.new.stripe
-      (λ on. push-told c.args.ticket c.args.leg p.result (is-made a.result a.ensures on))
-      (λ off. push-not c.args.ticket c.args.leg type held.gated.stripe p.new.stripe p.result (not-made a.result a.ensures off))
-      (push-allowed held.gated.durable held.gated.stripe c.args.ticket c.args.leg) tt p.ensures.step,
+          (λ on. push-told c.args.ticket c.args.leg p.result (is-made a.result a.ensures on))
+          (λ off. push-not c.args.ticket c.args.leg type held.gated.stripe p.new.stripe p.result (not-made a.result a.ensures off))
+          (push-allowed held.gated.durable held.gated.stripe c.args.ticket c.args.leg) tt p.ensures.step,
     )
 
 pub returns-clause-follows : goal.returns-clause-follows

@@ -16,8 +16,8 @@ note_own-requires g c =
       held.gated,
       held.leads,
       own-move type (step.Push c.args.ticket c.args.leg) (answer_of_push p.result) held.gated p.new.self
-      (push-allowed held.gated.durable held.gated.stripe c.args.ticket c.args.leg) tt c.requires.leg
-      (push-step type held.gated.stripe p.new.self c.args.ticket c.args.leg p.result p.ensures.ok p.ensures.cause p.ensures.stays),
+          (push-allowed held.gated.durable held.gated.stripe c.args.ticket c.args.leg) tt c.requires.leg
+          (push-step type held.gated.stripe p.new.self c.args.ticket c.args.leg p.result p.ensures.ok p.ensures.cause p.ensures.stays),
     )
 
 pub returns-clause-stays : goal.returns-clause-stays

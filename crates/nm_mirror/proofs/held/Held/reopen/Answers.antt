@@ -17,8 +17,8 @@ note_own-requires g c =
       held.gated,
       held.leads,
       opens-again (leg_type g.L.LegPart.model g.L.LegPart.honest) held.gated c.args.place c.args.legs.items c.args.policy c.in-Ok.stripe
-      (c.if-not-may_reopen.ensures.stopped refl) (c.if-not-may_reopen.ensures.place refl)
-      (names-only held.gated.stripe held.gated.durable c.requires.saved (c.if-not-may_reopen.ensures.alone refl)) c.keeps.ensures is,
+          (c.if-not-may_reopen.ensures.stopped refl) (c.if-not-may_reopen.ensures.place refl)
+          (names-only held.gated.stripe held.gated.durable c.requires.saved (c.if-not-may_reopen.ensures.alone refl)) c.keeps.ensures is,
     )
 
 pub returns-in-Ok-clause-opened : goal.returns-in-Ok-clause-opened
