@@ -10,6 +10,7 @@ mod OneInSync
 mod OneWay
 mod OpenedLemmas
 mod OpeningLemmas
+mod OwnSteps
 mod Places
 mod PushedLemmas
 mod ReopenLemmas
