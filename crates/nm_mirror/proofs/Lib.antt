@@ -11,6 +11,7 @@ mod OneWay
 mod OpenedLemmas
 mod OpeningLemmas
 mod OwnSteps
+mod OwnSaves
 mod Places
 mod PushedLemmas
 mod ReopenLemmas
