@@ -18,5 +18,6 @@ mod ReopenLemmas
 mod RoundLemmas
 mod SaveLemmas
 mod StatusLemmas
+mod StepsTold
 mod TakingLemmas
 mod TrailLemmas
