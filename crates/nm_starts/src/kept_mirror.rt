@@ -152,6 +152,15 @@ fn none_read(alloc: Global) -> Result<BytesRead, StartFault> {
     }
 }
 
+// Who tells of a mirror while its legs are compared.
+#[derive(Drop)]
+struct Watch<'a, M> {
+    // Who answers.
+    meanwhile: &'a M,
+    // The log lines.
+    lines: &'a LogLines,
+}
+
 // Opens the mirror, while one thread tells how far the comparison of its legs is, and another one
 // answers. Where no thread can be had nothing is told.
 fn open_watched<R, M: Meanwhile + Sync, J: Naming>(
@@ -159,8 +168,7 @@ fn open_watched<R, M: Meanwhile + Sync, J: Naming>(
     alloc: Global,
     settings: &Settings<'_>,
     files: &LegFiles,
-    meanwhile: &M,
-    lines: &LogLines,
+    watch: &Watch<'_, M>,
     kept: Option<KeptImage>,
     log: EmptyLog<Leg, J>,
 ) -> Result<OpenedMirror<J>, StartFault>
@@ -180,6 +188,7 @@ where
         read: &read,
     };
     let (ended, comparison) = (&has_ended, &own_comparison);
+    let (meanwhile, lines) = (watch.meanwhile, watch.lines);
     thread::scope(thread::scope_env(), rt, |scope| {
         let _ = scope.spawn(move || tell_progress(rt, alloc, ended, comparison, lines));
         let _ = scope.spawn(move || meanwhile.answer(rt, alloc, ended, comparison));
@@ -346,16 +355,8 @@ where
         is_compared: by.is_compared,
     };
     let opened = if by.is_first || by.is_compared {
-        open_watched(
-            rt,
-            alloc,
-            settings,
-            files,
-            meanwhile,
-            lines,
-            Some(kept),
-            log,
-        )?
+        let watch = Watch { meanwhile, lines };
+        open_watched(rt, alloc, settings, files, &watch, Some(kept), log)?
     } else {
         open_image(rt, alloc, &settings.mirror, files, kept, log)?
     };
@@ -382,7 +383,8 @@ where
 {
     check_place(rt, alloc, settings, files)?;
     if settings.opening.superblock == SuperblockPlace::Nowhere {
-        return open_watched(rt, alloc, settings, files, meanwhile, lines, None, log);
+        let watch = Watch { meanwhile, lines };
+        return open_watched(rt, alloc, settings, files, &watch, None, log);
     }
     open_kept(rt, alloc, settings, files, meanwhile, lines, log)
 }
