@@ -260,13 +260,19 @@ fn ready_state<R: Threads + Wait + Sync + Copy + Send + Clock + 'static>(
     state_of(rt, alloc, settings, limits, metrics)
 }
 
+// What is asked of the server, and what the system lets it do.
+#[derive(Drop)]
+struct Asked<'s, 'a> {
+    settings: &'s Settings<'a>,
+    limits: &'s Limits,
+}
+
 // Opens what the settings ask for, and serves it until a `quit`.
 fn open_and_serve<J: Naming + Send + Sync, R, P: OpensLegs + Sync, O: Write>(
     rt: &R,
     alloc: Global,
     opener: &P,
-    settings: &Settings<'_>,
-    limits: &Limits,
+    asked: &Asked<'_, '_>,
     out: &mut O,
     lines: &LogLines,
     log: OpenedLog<Leg>,
@@ -284,6 +290,7 @@ where
         + 'static,
     requires { log.table.shared.table_id ≡ J.table }
 {
+    let (settings, limits) = (asked.settings, asked.limits);
     let (named, files) = find_export(rt, alloc, settings, limits)?;
     let listening = &settings.listening;
     let clients = listen(rt, alloc, Port::Clients, listening)?;
@@ -334,5 +341,7 @@ where
     let Ok(log) = open_log(alloc) else {
         return Err(StartFault::Memory);
     };
-    open_and_serve::<Brand, R, P, O>(rt, alloc, opener, &*settings, limits, out, lines, log)
+    let settings = &*settings;
+    let asked = Asked { settings, limits };
+    open_and_serve::<Brand, R, P, O>(rt, alloc, opener, &asked, out, lines, log)
 }
