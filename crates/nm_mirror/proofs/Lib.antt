@@ -2,6 +2,7 @@ mod ClaimingLemmas
 mod CountedLemmas
 mod GlanceLemmas
 mod HeldLemmas
+mod HeldSame
 mod ListLemmas
 mod MarkedLemmas
 mod NotedLemmas
