@@ -1,5 +1,5 @@
 -- Each write that is tried is the first of those that are left.
-use Rattle.std.proofs.Common.{◌≡◌, refl, ◌∙◌}
+use Rattle.std.proofs.Common.{refl, ◌∙◌}
 use Rattle.nm_leg.specs.Leg.{leg_type}
 use Rattle.nm_mirror.proofs.HeldSame.{none-tried, tries-begin, tried-gone, tried-left}
 use Rattle.nm_mirror.proofs.OneWay.{one-way}

@@ -1,5 +1,5 @@
 -- What is claimed is what was pushed.
-use Rattle.std.proofs.Common.{◌≡◌, subst}
+use Rattle.std.proofs.Common.{subst}
 use Rattle.nm_mirror.specs.ClaimingLeft.{ClaimsIfSaved}
 use Rattle.nm_mirror.specs.declared.held.Held.{Held}
 use Rattle.nm_mirror.proofs.held.Held.try_claim.Goals as goal
