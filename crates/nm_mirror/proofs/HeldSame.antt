@@ -26,8 +26,8 @@ module _ {L J : Type 0} {N : _} (type : LegType L) where
         → ClaimsEach type (reverse rest) (with-left held none leads) end → ClaimsEach type (reverse held.unclaimed) (with_none_left held) end
     tries-begin held rest none leads same empty end each =
         subst (λ (h : Held L J N). ClaimsEach type (reverse held.unclaimed) h end) (led held [] leads)
-            (subst (λ (tickets : List ℕ). ClaimsEach type (reverse held.unclaimed) (with-left held tickets leads) end) empty
-            (subst (λ (tickets : List ℕ). ClaimsEach type (reverse tickets) (with-left held none leads) end) same each))
+        (subst (λ (tickets : List ℕ). ClaimsEach type (reverse held.unclaimed) (with-left held tickets leads) end) empty
+        (subst (λ (tickets : List ℕ). ClaimsEach type (reverse tickets) (with-left held none leads) end) same each))
 
     module _ (old mid : Held L J N) (rest left : List ℕ) (ticket : ℕ) (gone : Bool) (last : rest ≡ left ++ ticket ∷ []) (tries : TriesClaim type ticket gone old mid) where
       backwards : ticket ∷ reverse left ≡ reverse rest
@@ -41,6 +41,9 @@ module _ {L J : Type 0} {N : _} (type : LegType L) where
       -- one that is not is left besides
       pub tried-left : gone ≡ false → (tickets : List ℕ) (leads : mid.trail ≡ Some mid.gated) → tickets ≡ with_ticket ticket mid.unclaimed → (end : Held L J N)
           → ClaimsEach type (reverse left) (with-left mid tickets leads) end → ClaimsEach type (reverse rest) old end
-      tried-left is tickets leads added end each = subst (λ (some : List ℕ). ClaimsEach type some old end) backwards
-          (false, mid, subst (λ (b : Bool). TriesClaim type ticket b old mid) is tries,
-          subst (λ (h : Held L J N). ClaimsEach type (reverse left) h end) (ap (λ (some : List ℕ). with-left mid some leads) added ∙ led mid (with_ticket ticket mid.unclaimed) leads) each)
+      tried-left is tickets leads added end each = subst (λ (some : List ℕ). ClaimsEach type some old end) backwards (
+        false,
+        mid,
+        subst (λ (b : Bool). TriesClaim type ticket b old mid) is tries,
+        subst (λ (h : Held L J N). ClaimsEach type (reverse left) h end) (ap (λ (some : List ℕ). with-left mid some leads) added ∙ led mid (with_ticket ticket mid.unclaimed) leads) each,
+      )
