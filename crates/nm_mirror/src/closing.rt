@@ -58,10 +58,12 @@ fn even_totals<L: LegPart, J: Naming>(
     ensures uneven { IfErr result (IsFirstUneven passes.now ends.items) }
 {
     let mut ends = ends;
-    match ends.iter().position(|end| !is_even(end, passes)) {
-        Some(place) => Err(ends.swap_remove(place)),
-        None => Ok(Totals { ends }),
+    for place in 0..ends.len() {
+        if !is_even(&ends[place], passes) {
+            return Err(ends.swap_remove(place));
+        }
     }
+    Ok(Totals { ends })
 }
 
 /// What the end of each stripe tells, by rising number of the stripes.
