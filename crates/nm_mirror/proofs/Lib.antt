@@ -13,6 +13,7 @@ mod OpenedLemmas
 mod OpeningLemmas
 mod OwnSteps
 mod OwnSaves
+mod OwnLooks
 mod Places
 mod PushedLemmas
 mod ReopenLemmas

@@ -10,6 +10,7 @@ pub mod Glances
 pub mod Holding
 pub mod Joining
 pub mod LaneState
+pub mod Looking
 pub mod Marked
 pub mod MirrorFault
 pub mod Numbers

@@ -60,6 +60,7 @@ mod marked_opening;
 mod mirror;
 mod mirror_fault;
 mod opening;
+mod own_looks;
 mod own_steps;
 mod part_lane;
 mod pass;

@@ -1,5 +1,5 @@
 //! The steps on the stripe behind a lock that no pass counts.
-ghost use Rattle.std.specs.Prelude.{◌≡◌, ◌<◌, ◌≤◌, length, IfErr, IfOk, IfSome, OnErr};
+ghost use Rattle.std.specs.Prelude.{◌≡◌, ◌<◌, length, IfErr, IfOk, IfSome, OnErr};
 ghost use Rattle.std.specs.Option.{option_map};
 ghost use Rattle.std.specs.Prelude.{OnOk, Some};
 ghost use Rattle.nm_gate.specs.Changes.{Leads, cleared};
@@ -9,7 +9,7 @@ ghost use Rattle.nm_gate.specs.Returning.{suspects};
 ghost use Rattle.nm_gate.specs.Settling.{MayClear};
 ghost use Rattle.nm_leg.specs.Leg.{leg_type};
 ghost use Rattle.nm_mirror.specs.Asks.{LetsPass};
-ghost use Rattle.nm_mirror.specs.Holding.{with_gated, with_legs, with_stripe};
+ghost use Rattle.nm_mirror.specs.Holding.{with_gated, with_stripe};
 ghost use Rattle.nm_mirror.specs.Saving.{BeginsAt, EndsAt, FailsAt, claims_in};
 ghost use Rattle.nm_mirror.specs.declared.ask.Ask.TheVariants as ask;
 ghost use Rattle.nm_rules.specs.Attach.{Replaces, Returns, attach_cause};
@@ -24,8 +24,6 @@ ghost use Rattle.nm_stripe.specs.Fail.{Fails};
 ghost use Rattle.nm_stripe.specs.Push.{Reaches};
 ghost use Rattle.nm_stripe.specs.Sync.{EndsJoining, FlushesLeg, RefusesSync};
 ghost use Rattle.nm_stripe.specs.declared.step.Step.TheVariants as step;
-ghost use Rattle.nm_verify.specs.Agreement.{Agrees};
-ghost use Rattle.nm_verify.specs.Looks.{Begins, Sees};
 
 use crate::held::Held;
 use crate::save_order::SaveOrder;
@@ -34,12 +32,11 @@ use nm_book::Naming;
 use nm_gate::LegClaims;
 use nm_leg::LegPart;
 use nm_stripe::{Copying, Failing, Promotion, Reach, Refusal, Syncing, Written};
-use nm_verify::{Agreed, Begun, Cursor, Half, Seen, look_first, look_second, look_without};
 use std::marker::Brand;
 
-/// Each is one step of the stripe or of its gate, with its answer, or a look, is noted, and changes
-/// nothing else that is held. Together with the steps of a pass and with `reopen` they are all that
-/// changes a stripe of a mirror: nobody else is lent one.
+/// Each is one step of the stripe or of its gate, with its answer, is noted, and changes nothing else
+/// that is held. Together with the steps of a pass, the looks and `reopen` they are all that changes
+/// a stripe of a mirror: nobody else is lent one.
 impl<L: LegPart, J: Naming> Held<L, J> {
     /// Pushes a write whose call does not do so.
     pub(crate) fn push_owed(&mut self, ticket: u64, leg: u8) -> Result<Reach, Refusal>
@@ -250,53 +247,5 @@ impl<L: LegPart, J: Naming> Held<L, J> {
         if self.gated.durable.is_some() {
             self.trail.note_own::<Clearing, _>(&self.gated, &());
         }
-    }
-
-    /// Looks at the first leg there, which is compared with another.
-    pub(crate) fn look_first(&mut self, at: Cursor, held: &mut [u8]) -> Begun
-        requires room { length held.old ≡ 65536 }
-        ensures begins { Begins (leg_type L.model L.honest) at
-            (self.old.gated.stripe, self.new.gated.stripe) held.new result }
-        ensures room { length held.new ≡ 65536 }
-        ensures others { self.new ≡ with_legs self.new.gated.stripe.legs self.old }
-    {
-        look_first(&mut self.gated.stripe, at, held)
-    }
-
-    /// Looks at the second leg there.
-    pub(crate) fn look_second(
-        &mut self,
-        at: Cursor,
-        half: Half,
-        held: &[u8],
-        found: &mut [u8],
-    ) -> Seen
-        requires held { length held.now ≡ 65536 }
-        requires room { length found.old ≡ 65536 }
-        ensures sees { Sees (leg_type L.model L.honest) (at, half)
-            (self.old.gated.stripe, self.new.gated.stripe) held.now found.new result }
-        ensures room { length found.new ≡ 65536 }
-        ensures others { self.new ≡ with_legs self.new.gated.stripe.legs self.old }
-    {
-        look_second(&mut self.gated.stripe, at, half, held, found)
-    }
-
-    /// Looks at what all legs in sync but this one hold of the run there.
-    pub(crate) fn look_without(
-        &mut self,
-        at: Cursor,
-        leg: u8,
-        held: &mut [u8],
-        found: &mut [u8],
-    ) -> Option<Agreed>
-        requires held { length held.old ≡ 65536 }
-        requires room { length found.old ≡ 65536 }
-        ensures agrees { IfSome result (Agrees (leg_type L.model L.honest) (at, leg)
-            self.old.gated.stripe held.new) }
-        ensures most { IfSome result (λ agreed. (0 < agreed.count) × (agreed.count ≤ 128)) }
-        ensures long { (length held.new ≡ 65536) × (length found.new ≡ 65536) }
-        ensures others { self.new ≡ with_legs self.new.gated.stripe.legs self.old }
-    {
-        look_without(&mut self.gated.stripe, at, leg, held, found)
     }
 }

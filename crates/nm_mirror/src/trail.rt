@@ -222,6 +222,22 @@ impl<L: LegPart, J: Naming> Trail<L, J> {
         self.keeper = Some(noted);
     }
 
+    /// Notes the move that led here, which no client's pass makes, if one was made.
+    pub(crate) fn note_own_if<N: Tells<L>, X>(
+        &mut self,
+        is_made: bool,
+        to: &GatedStripe<L>,
+        about: &X,
+    )
+        requires { (from : GatedStripe L) × (self.old ≡ Some from)
+            × MadeIf (leg_type L.model L.honest) is_made N.made from to.now }
+        ensures { self.new ≡ Some to.now }
+    {
+        if is_made {
+            self.note_own::<N, X>(to, about);
+        }
+    }
+
     /// Notes that a save begins, ends or fails, where there is a superblock.
     pub(crate) fn note_save(&mut self, to: &GatedStripe<L>)
         requires { (from : GatedStripe L) × (self.old ≡ Some from)
