@@ -1,5 +1,5 @@
 -- A read passes every gate, and is noted unless it goes astray.
-use Rattle.std.proofs.Common.{◌≡◌, not, true, false, rules}
+use Rattle.std.proofs.Common.{not}
 use Rattle.nm_leg.specs.Leg.{leg_type}
 use Rattle.nm_stripe.specs.declared.step.Step.TheVariants as step
 use Rattle.nm_lanes.specs.Answers.{answer_of_read}
