@@ -1,15 +1,13 @@
 -- The numbers of the locks of a mirror, and of the parts of a pass, are those of their places.
-use Rattle.std.proofs.Common.{◌≡◌, ℕ, zero, suc, ◌<◌, List, [], ◌∷◌, ◌++◌, length, take, map, reverse, get_or, set, slice_get, None, Some, inl, inr, sym, ap, subst, ◌∙◌, arith}
+use Rattle.std.proofs.Common.{◌≡◌, ℕ, zero, suc, ◌<◌, List, [], ◌∷◌, ◌++◌, length, take, map, reverse, All, get_or, set, slice_get, None, Some, inl, inr, sym, ap, subst, ◌∙◌, arith}
 use Rattle.std.proofs.Math.Seq.{take-append_seam}
 use Rattle.std.proofs.lemmas.List.{length-map, reverse-append, reverse-reverse}
 use Rattle.std.proofs.lemmas.Option.{same_Some, slice_get_cases, slice_get_past}
 use Rattle.nm_geometry.specs.Geometry.{Geometry}
-use Rattle.nm_part.specs.PartState.{PartState}
 use Rattle.nm_rules.specs.State.{StripeState}
 use Rattle.nm_mirror.proofs.OpenedLemmas.{mapped}
 use Rattle.nm_mirror.proofs.Places.{one_more}
 use Rattle.nm_mirror.specs.Numbers.{AreInOrder}
-use Rattle.nm_mirror.specs.Passes.{HasCountedNothing}
 use Rattle.nm_mirror.specs.Stripes.{EachIsNew}
 
 -- no lock yet: all stripes are left, last first
@@ -31,6 +29,19 @@ one-locked f g xs new x left rest y all before is number added =
     ap (λ l. map g (reverse l)) is ∙ ap (map g) (reverse-append rest (y ∷ [])) in
     let here : map f new ≡ map f xs ++ g y ∷ [] = ap (map f) added ∙ map-one f xs x ∙ ap (λ n. map f xs ++ n ∷ []) number in
     ap (λ l. l ++ map g (reverse rest)) here ∙ append-one (map f xs) (map g (reverse rest)) (g y) ∙ ap (λ l. map f xs ++ l) (sym front) ∙ before
+
+at-length : (us ws : List ℕ) (v : ℕ) → slice_get (us ++ v ∷ ws) (length us) ≡ Some v
+at-length [] ws v = cc
+at-length (u ∷ us) ws v = at-length us ws v
+
+-- the stripe that is locked next has the number of its lock's place
+pub next-number : {A B : Type 0} (f : A → ℕ) (g : B → ℕ) (xs : List A) (left rest : List B) (y : B) (all : List ℕ) → map f xs ++ map g (reverse left) ≡ all → left ≡ rest ++ y ∷ [] → AreInOrder all → g y ≡ length xs
+next-number f g xs left rest y all before is order =
+    let front : map g (reverse left) ≡ g y ∷ map g (reverse rest) =
+    ap (λ l. map g (reverse l)) is ∙ ap (map g) (reverse-append rest (y ∷ [])) in
+    let at : slice_get all (length (map f xs)) ≡ Some (g y) =
+    subst (λ (l : List ℕ). slice_get l (length (map f xs)) ≡ Some (g y)) (sym (ap (λ l. map f xs ++ l) front) ∙ before) (at-length (map f xs) (map g (reverse rest)) (g y)) in
+    order (length (map f xs)) (g y) at ∙ length-map xs f
 
 -- the numbers of a shape's stripes are in order
 pub stripes-in-order : {L : Type 0} (shape : Geometry) (stripes : List (StripeState L)) → EachIsNew shape stripes → AreInOrder (map (λ stripe. stripe.place.stripe) stripes)
@@ -71,15 +82,15 @@ kept-number f [] place x d same = cc
 kept-number f (z ∷ xs) zero x d same = ap (λ n. n ∷ map f xs) same
 kept-number f (z ∷ xs) (suc place) x d same = ap (λ l. f z ∷ l) (kept-number f xs place x d same)
 
-append-counted : (parts : List PartState) (part : PartState) → ((k : ℕ) (d : PartState) → k < length parts → (get_or parts k d).count ≡ 0) → part.count ≡ 0 → (k : ℕ) (d : PartState) → k < length (parts ++ part ∷ []) → (get_or (parts ++ part ∷ []) k d).count ≡ 0
-append-counted [] part none counted zero d inside = counted
-append-counted [] part none counted (suc k) d inside = absurd (omega arith)
-append-counted (p ∷ parts) part none counted zero d inside = none zero d (omega arith)
-append-counted (p ∷ parts) part none counted (suc k) d inside = append-counted parts part (λ j e within. none (suc j) e (omega (arith, within))) counted k d (omega (arith, inside))
+append-all : {A : Type 0} (is : A → Type 0) (xs : List A) (x : A) → ((k : ℕ) (d : A) → k < length xs → is (get_or xs k d)) → is x → (k : ℕ) (d : A) → k < length (xs ++ x ∷ []) → is (get_or (xs ++ x ∷ []) k d)
+append-all is [] x each one zero d inside = one
+append-all is [] x each one (suc k) d inside = absurd (omega arith)
+append-all is (y ∷ xs) x each one zero d inside = each zero d (omega arith)
+append-all is (y ∷ xs) x each one (suc k) d inside = append-all is xs x (λ j e within. each (suc j) e (omega (arith, within))) one k d (omega (arith, inside))
 
--- one part more that has counted nothing
-pub one-counted : (parts new : List PartState) (part : PartState) → HasCountedNothing parts → part.count ≡ 0 → new ≡ parts ++ part ∷ [] → HasCountedNothing new
-one-counted parts new part none counted added = rw added (append-counted parts part none counted)
+-- what holds of each of a list, and of one more
+pub one-more-all : {A : Type 0} (is : A → Type 0) (xs new : List A) (x : A) → All is xs → is x → new ≡ xs ++ x ∷ [] → All is new
+one-more-all is xs new x each one added = rw added (append-all is xs x each one)
 
 -- so they are once what has them was written anew, with the same numbers
 pub order-kept : {A : Type 0} (number : A → ℕ) (len : ℕ) (news olds rest : List A) → len ≡ length news

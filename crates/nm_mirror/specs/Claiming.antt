@@ -22,7 +22,7 @@ with_left count past = record past {
 }
 
 -- what the superblock may say stays, and so do the opening and the writes that are to be claimed
-pub record LeavesGate {L J : Type 0} (old new : Held L J) : Type 0 where
+pub record LeavesGate {L J : Type 0} {N : _} (old new : Held L J N) : Type 0 where
   pub durable : new.gated.durable ≡ old.gated.durable
   pub openings : new.openings ≡ old.openings
   pub unclaimed : new.unclaimed ≡ old.unclaimed
@@ -34,7 +34,8 @@ is_gone cause = true
 
 -- The write of this ticket is claimed, if it is finished, and gone; the stripe's end counts its
 -- entries as ever, among those of writes that were left. If it is not, nothing changes.
-pub record ClaimsFor {L J : Type 0} (ticket : ℕ) (gone : Bool) (old new : Held L J) : Type 0 where
+pub record ClaimsFor {L J : Type 0} {N : _} (ticket : ℕ) (gone : Bool) (old new : Held L J N)
+    : Type 0 where
   pub claimed : claim_run_cause old.gated.stripe ticket ≡ None → (gone ≡ true)
       × ((entries : EntryNames) × ClaimsRun old.gated.stripe new.gated.stripe ticket entries
       × (new.past ≡ with_left entries.count old.past))

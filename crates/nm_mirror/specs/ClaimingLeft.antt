@@ -36,7 +36,8 @@ pub record PushesWrite {L : Type 0} (type : LegType L) (ticket : ℕ) (old new :
   pub ends : OwesNone ticket new ⊎ (length steps ≡ 8)
 
 -- the gate lets the write of this ticket be claimed, and it is; or it does not, and nothing changes
-pub data ClaimsIfSaved {L J : Type 0} (ticket : ℕ) (gone : Bool) (old new : Held L J) : Type 0 where
+pub data ClaimsIfSaved {L J : Type 0} {N : _} (ticket : ℕ) (gone : Bool) (old new : Held L J N)
+    : Type 0 where
   Passes : LetsPass old.gated.durable old.gated.stripe ToAnswer → ClaimsFor ticket gone old new
       → ClaimsIfSaved ticket gone old new
   Waits : (refusal : GateRefusal)
@@ -44,24 +45,26 @@ pub data ClaimsIfSaved {L J : Type 0} (ticket : ℕ) (gone : Bool) (old new : He
       → ClaimsIfSaved ticket gone old new
 
 -- the write of this ticket is pushed, and then claimed if the gate lets that pass
-pub record TriesClaim {L J : Type 0} (type : LegType L) (ticket : ℕ) (gone : Bool)
-    (old new : Held L J) : Type 0 where
+pub record TriesClaim {L J : Type 0} {N : _} (type : LegType L) (ticket : ℕ) (gone : Bool)
+    (old new : Held L J N) : Type 0 where
   pub pushed : StripeState L
   pub pushes : PushesWrite type ticket old.gated.stripe pushed
   pub claims : ClaimsIfSaved ticket gone (with_stripe pushed old) new
 
 -- what is held, with no write left to be claimed
-abbrev pub with_none_left : {L J : Type 0} → Held L J → Held L J
+abbrev pub with_none_left : {L J : Type 0} {N : _} → Held L J N → Held L J N
 with_none_left held = record held { unclaimed = [] }
 
 -- a write that is not gone is left to be claimed
-abbrev pub left_unless : {L J : Type 0} → (gone : Bool) → (ticket : ℕ) → Held L J → Held L J
+abbrev pub left_unless : {L J : Type 0} {N : _} → (gone : Bool) → (ticket : ℕ) → Held L J N
+    → Held L J N
 left_unless gone ticket held =
     if gone then held else record held { unclaimed = with_ticket ticket held.unclaimed }
 
 -- the writes of these tickets are tried, one after the other, and each that is not gone is left
-abbrev pub ClaimsEach : {L J : Type 0} → LegType L → List ℕ → (old new : Held L J) → Type 0
+abbrev pub ClaimsEach : {L J : Type 0} {N : _} → LegType L → List ℕ → (old new : Held L J N)
+    → Type 0
 ClaimsEach type [] old new = new ≡ old
-ClaimsEach {L} {J} type (ticket ∷ tickets) old new =
-    (gone : Bool) × (mid : Held L J) × TriesClaim type ticket gone old mid
+ClaimsEach {L} {J} {N} type (ticket ∷ tickets) old new =
+    (gone : Bool) × (mid : Held L J N) × TriesClaim type ticket gone old mid
     × ClaimsEach type tickets (left_unless gone ticket mid) new

@@ -1,16 +1,16 @@
 -- The end of a mirror: what its stripes have had, and what its passes counted.
 use Rattle.std.specs.Prelude.{◌≡◌, ◌<◌, ◌≤◌, ◌+◌, ℕ, List, Option, None, Some, length}
 use Rattle.std.specs.Prelude.{slice_get, sum_by, take, All}
-use Rattle.nm_part.specs.PartState.{PartState}
+use Rattle.nm_mirror.specs.LaneState.{LaneState}
 use Rattle.nm_stripe.specs.End.{EndOf}
 use Rattle.nm_mirror.specs.declared.pass.Pass.{Pass}
 use Rattle.nm_mirror.specs.declared.refused.Refused.{Refused}
 use Rattle.nm_mirror.specs.declared.refused.Refused.TheVariants.{Memory, PassesMissing, Uneven}
 
 -- what a part counted, if there is one
-abbrev pub count_of : Option PartState → ℕ
+abbrev pub count_of : {L : Type 0} → Option (LaneState L) → ℕ
 count_of None = 0
-count_of (Some part) = part.count
+count_of (Some lane) = lane.part.count
 
 -- what the pass counted in this stripe
 abbrev pub count_in : {L J : Type 0} → ℕ → Pass L J → ℕ

@@ -8,15 +8,18 @@ pub mod Counting
 pub mod Counts
 pub mod Glances
 pub mod Holding
+pub mod Joining
+pub mod LaneState
+pub mod Looking
 pub mod Marked
-pub mod Numbers
 pub mod MirrorFault
+pub mod Numbers
 pub mod Opening
 pub mod Passes
 pub mod Refused
 pub mod Reopening
-pub mod Replacing
 pub mod Repair
+pub mod Replacing
 pub mod Resync
 pub mod RoundChanges
 pub mod RoundInside
@@ -26,4 +29,5 @@ pub mod Saving
 pub mod Settling
 pub mod Status
 pub mod Stripes
+pub mod Trail
 pub mod Verify

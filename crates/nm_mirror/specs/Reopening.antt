@@ -1,6 +1,7 @@
 -- A stripe that stopped, once it is opened anew from the leg it stopped on.
 use Rattle.std.specs.Prelude.{◌≡◌, ℕ, zero, suc, ◌+◌, ◌-◌, ◌^◌, ◌<◌, Bool, false, true, min}
 use Rattle.std.specs.Prelude.{List, [], length, Option, None, Some}
+use Rattle.nm_book.specs.declared.rule.Naming.{Ghosts}
 use Rattle.nm_choice.specs.declared.policy.Policy.{Policy}
 use Rattle.nm_leg.specs.Leg.{LegType}
 use Rattle.nm_rules.specs.Opening.{opened}
@@ -49,8 +50,8 @@ NamesAtMost legs master (Some d) =
 -- first number is the one that was next. What the superblock may say stays, and calls no other leg
 -- in sync. The end of what it was is added to those of its earlier openings, and no write of it is
 -- to be claimed any more.
-pub record Reopens {L J : Type 0} (place : At) (legs : List L) (policy : Policy)
-    (old new : Held L J) : Type 0 where
+pub record Reopens {L J : Type 0} {N : _} (place : At) (legs : List L) (policy : Policy)
+    (old new : Held L J N) : Type 0 where
   pub stopped : old.gated.stripe.stopped ≡ true
   pub saved : LetsPass old.gated.durable old.gated.stripe Answer
   pub alone : NamesAtMost (length old.gated.stripe.legs) old.gated.stripe.master
@@ -86,15 +87,16 @@ pub record HasStopped (L : Type 0) (number : ℕ) (stopped : Bool) : Type 0 wher
   pub stopped_is : stripe.stopped ≡ stopped
 
 -- the stripe behind the lock was opened anew in a hold of it, with so many blocks left to copy
-pub record OpensAnew {L : Type 0} (J : Type 0) (place : At) (legs : List L) (policy : Policy)
-    (blocks : ℕ) : Type 0 where
-  pub held : Held L J × Held L J
+pub record OpensAnew {L J : Type 0} (names : Ghosts J) (place : At) (legs : List L)
+    (policy : Policy) (blocks : ℕ) : Type 0 where
+  pub held : Held L J names × Held L J names
   pub number_is : held.0.gated.stripe.place.stripe ≡ place.stripe
   pub reopens : Reopens place legs policy held.0 held.1
   pub left : blocks ≡ left_to_all held.1.gated.stripe
 
 -- what came of a stripe that was to be opened anew at this place, on these legs
-abbrev pub EndsReopening : {L : Type 0} → (J : Type 0) → At → List L → Policy → Reopened → Type 0
-EndsReopening {L} J place legs policy reopened.Runs = HasStopped L place.stripe false
-EndsReopening J place legs policy (reopened.Opened blocks) = OpensAnew J place legs policy blocks
-EndsReopening J place legs policy reopened.Stays = Unit {0}
+abbrev pub EndsReopening : {L J : Type 0} → Ghosts J → At → List L → Policy → Reopened → Type 0
+EndsReopening {L} names place legs policy reopened.Runs = HasStopped L place.stripe false
+EndsReopening names place legs policy (reopened.Opened blocks) =
+    OpensAnew names place legs policy blocks
+EndsReopening names place legs policy reopened.Stays = Unit {0}

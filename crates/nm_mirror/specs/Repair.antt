@@ -8,7 +8,7 @@ use Rattle.nm_lanes.specs.Writes.{HasWritten, FailsWriting}
 use Rattle.nm_lanes.specs.declared.write_fault.WriteFault.{WriteFault}
 use Rattle.nm_leg.specs.Leg.{LegType}
 use Rattle.nm_mirror.specs.Counting.{Follows}
-use Rattle.nm_part.specs.PartState.{PartState}
+use Rattle.nm_mirror.specs.LaneState.{LaneState}
 use Rattle.nm_rules.specs.State.{StripeState}
 use Rattle.nm_verify.specs.Agreement.{Agrees}
 use Rattle.nm_verify.specs.declared.agreement.Agreed.{Agreed}
@@ -31,7 +31,7 @@ bytes_at at shape length =
 
 -- they were written there through the pass, once all legs in sync but this one gave them
 pub record Repairs {L : Type 0} (type : LegType L) (shape : Geometry) (at : Cursor) (leg : ℕ)
-    (parts : List PartState × List PartState) : Type 0 where
+    (parts : List (LaneState L) × List (LaneState L)) : Type 0 where
   pub bytes : List ℕ
   pub is : IsAgreed type at leg bytes
   pub written : HasWritten (Follows type) shape
@@ -39,13 +39,13 @@ pub record Repairs {L : Type 0} (type : LegType L) (shape : Geometry) (at : Curs
 
 -- a repair ends so: it wrote, or did nothing
 abbrev pub EndsRepair : {L : Type 0} → LegType L → Geometry → Cursor → (leg : ℕ)
-    → List PartState × List PartState → Bool → Type 0
+    → List (LaneState L) × List (LaneState L) → Bool → Type 0
 EndsRepair type shape at leg parts true = Repairs type shape at leg parts
 EndsRepair type shape at leg parts false = parts.1 ≡ parts.0
 
 -- its write failed so
 pub record FailsToRepair {L : Type 0} (type : LegType L) (shape : Geometry) (at : Cursor)
-    (leg : ℕ) (parts : List PartState × List PartState) (fault : WriteFault) : Type 0 where
+    (leg : ℕ) (parts : List (LaneState L) × List (LaneState L)) (fault : WriteFault) : Type 0 where
   pub bytes : List ℕ
   pub is : IsAgreed type at leg bytes
   pub failed : FailsWriting (Follows type) shape

@@ -17,7 +17,7 @@ use nm_replay::Memory;
 use std::alloc::Global;
 
 /// What the pass counted in this stripe.
-fn count_in<L, J: Naming>(pass: &Pass<L, J>, stripe: u32) -> u64
+fn count_in<L: LegPart, J: Naming>(pass: &Pass<L, J>, stripe: u32) -> u64
     ensures { result ≡ count_in stripe pass.now }
 {
     match pass.parts.get(stripe as usize) {
@@ -27,7 +27,7 @@ fn count_in<L, J: Naming>(pass: &Pass<L, J>, stripe: u32) -> u64
 }
 
 /// What all passes counted in this stripe.
-fn count_in_all<L, J: Naming>(passes: &[Pass<L, J>], stripe: u32) -> u128
+fn count_in_all<L: LegPart, J: Naming>(passes: &[Pass<L, J>], stripe: u32) -> u128
     ensures { result ≡ count_in_all stripe passes.now }
 {
     let mut sum = 0u128;
@@ -39,7 +39,7 @@ fn count_in_all<L, J: Naming>(passes: &[Pass<L, J>], stripe: u32) -> u128
 
 /// Whether the stripe's history has had just the entries that the passes counted and that its
 /// records have.
-fn is_even<L, J: Naming>(end: &StripeEnd<L>, passes: &[Pass<L, J>]) -> bool
+fn is_even<L: LegPart, J: Naming>(end: &StripeEnd<L>, passes: &[Pass<L, J>]) -> bool
     ensures { IsTrue result ↔ IsEven passes.now end.now }
 {
     let sum = count_in_all(passes, end.stripe()).checked_add(u128::from(end.landed()));
@@ -49,7 +49,7 @@ fn is_even<L, J: Naming>(end: &StripeEnd<L>, passes: &[Pass<L, J>]) -> bool
 /// The totals of these ends.
 ///
 /// Refused with the first of them that is not even.
-fn even_totals<L, J: Naming>(
+fn even_totals<L: LegPart, J: Naming>(
     ends: Vec<StripeEnd<L>>,
     passes: &[Pass<L, J>],
 ) -> Result<Totals<L>, StripeEnd<L>>
@@ -58,10 +58,12 @@ fn even_totals<L, J: Naming>(
     ensures uneven { IfErr result (IsFirstUneven passes.now ends.items) }
 {
     let mut ends = ends;
-    match ends.iter().position(|end| !is_even(end, passes)) {
-        Some(place) => Err(ends.swap_remove(place)),
-        None => Ok(Totals { ends }),
+    for place in 0..ends.len() {
+        if !is_even(&ends[place], passes) {
+            return Err(ends.swap_remove(place));
+        }
     }
+    Ok(Totals { ends })
 }
 
 /// What the end of each stripe tells, by rising number of the stripes.

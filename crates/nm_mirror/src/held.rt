@@ -1,36 +1,30 @@
 //! What is behind a stripe's lock.
-ghost use Rattle.std.specs.Prelude.{◌≡◌, ◌<◌, ◌↔◌, ℕ, [], length, false, true, IsTrue};
+ghost use Rattle.std.specs.Prelude.{◌≡◌, ◌<◌, ◌↔◌, ℕ, [], length, false, true, IsTrue, Some};
+ghost use Rattle.std.specs.Coded.{Coded-set};
 ghost use Rattle.nm_gate.specs.Durable.{is_named};
-ghost use Rattle.nm_leg.specs.Leg.{leg_type};
-ghost use Rattle.nm_leg.specs.LegCalls.{EachHas};
-ghost use Rattle.nm_mirror.specs.Asks.{LetsPass};
-ghost use Rattle.nm_mirror.specs.Reopening.{GoesOn, NamesAtMost, Reopens};
-ghost use Rattle.nm_mirror.specs.Reopening.{no_past, with_past};
-ghost use Rattle.nm_mirror.specs.declared.ask.Ask.TheVariants.{Answer};
-ghost use Rattle.nm_regions.specs.Sound.{AreSizes};
-ghost use Rattle.nm_resync.specs.Chunk.{IsChunkSize};
-ghost use Rattle.nm_rules.specs.State.{next_number};
-ghost use Rattle.nm_stripe.specs.End.{end_of};
 
 use crate::opening::only_bit;
 use crate::stripe_end::{Past, StripeEnd};
+use crate::trail::{Log, Opening, StripeKeeper, Trail};
 use crate::unclaimed::Unclaimed;
 use nm_book::Naming;
 use nm_gate::{DurableState, GatedStripe};
 use nm_leg::LegPart;
 use nm_stripe::{At, Policy, Stripe};
 use std::alloc::Global;
-use std::marker::PhantomData;
+use std::sync::Arc;
 
-/// A stripe and its gate, how many times it was opened anew, what its earlier openings have had,
-/// and which writes nobody is to claim whose call has ended.
+/// A stripe and its gate, what is noted of it in the log of the mirror, how many times it was opened
+/// anew, what its earlier openings have had, and which writes nobody is to claim whose call has
+/// ended. What is noted leads to just this stripe.
 #[derive(Drop)]
 pub struct Held<L: LegPart, J: Naming> {
     pub(crate) gated: GatedStripe<L>,
+    pub(crate) trail: Trail<L, J>,
     pub(crate) openings: u64,
     pub(crate) past: Past,
     pub(crate) unclaimed: Unclaimed,
-    of: PhantomData<J>,
+    ghost leads: { trail ≡ Some gated } by { Coded-set trail-code trail (Some gated) },
 }
 
 /// Whether the superblock may call no leg of so many in sync but the master.
@@ -47,19 +41,37 @@ fn names_at_most(durable: &DurableState, legs: u8, master: u8) -> bool
 }
 
 impl<L: LegPart, J: Naming> Held<L, J> {
-    /// A stripe in its first opening.
-    pub(crate) fn new(gated: GatedStripe<L>) -> Self
+    ghost use Rattle.nm_leg.specs.Leg.{leg_type};
+    ghost use Rattle.nm_leg.specs.LegCalls.{EachHas};
+    ghost use Rattle.nm_mirror.specs.Asks.{LetsPass};
+    ghost use Rattle.nm_mirror.specs.Reopening.{GoesOn, NamesAtMost, Reopens};
+    ghost use Rattle.nm_mirror.specs.Reopening.{no_past, with_past};
+    ghost use Rattle.nm_mirror.specs.declared.ask.Ask.TheVariants.{Answer};
+    ghost use Rattle.nm_regions.specs.Sound.{AreSizes};
+    ghost use Rattle.nm_resync.specs.Chunk.{IsChunkSize};
+    ghost use Rattle.nm_rules.specs.State.{next_number};
+    ghost use Rattle.nm_stripe.specs.End.{end_of};
+
+    /// A stripe in its first opening, of which nothing was noted yet.
+    pub(crate) fn new(
+        gated: GatedStripe<L>,
+        book: Arc<Log<L, J>>,
+        keeper: StripeKeeper<L, J>,
+    ) -> Self
+        requires none { keeper.all ≡ [] }
+        requires own { keeper.shard ≡ gated.stripe.place.stripe }
         ensures gated { result.gated ≡ gated }
         ensures first { result.openings ≡ 0 }
         ensures past { result.past ≡ no_past }
         ensures claimed { result.unclaimed ≡ [] }
     {
+        let trail = Trail::new(book, keeper, &gated);
         Held {
             gated,
+            trail,
             openings: 0,
             past: Past::default(),
             unclaimed: Unclaimed::new(),
-            of: PhantomData,
         }
     }
 
@@ -82,9 +94,23 @@ impl<L: LegPart, J: Naming> Held<L, J> {
         }
     }
 
+    /// Whether a stripe that stopped may open anew at this place, on so many legs.
+    fn may_reopen(&self, place: At, legs: usize) -> bool
+        ensures stopped { IsTrue result → self.now.gated.stripe.stopped ≡ true }
+        ensures place { IsTrue result → self.now.gated.stripe.place ≡ place }
+        ensures master { IsTrue result → self.now.gated.stripe.master < legs }
+        ensures alone { IsTrue result → NamesAtMost (length self.now.gated.stripe.legs)
+            self.now.gated.stripe.master self.now.gated.durable }
+    {
+        self.gated.stripe.is_stopped()
+            && self.gated.stripe.place() == place
+            && (self.gated.stripe.master() as usize) < legs
+            && self.names_at_most_the_master()
+    }
+
     /// Opens a stripe that stopped anew, at its place and on these legs: from the leg it stopped
-    /// on. Whether it did: not where it runs, where the superblock may call another leg in sync, or
-    /// where memory is refused. Then nothing changes.
+    /// on. Whether it did: not where it runs, where that is not its place, where the superblock may
+    /// call another leg in sync, or where memory is refused. Then nothing changes.
     pub(crate) fn reopen(&mut self, alloc: Global, place: At, legs: Vec<L>, policy: Policy) -> bool
         requires saved { LetsPass self.old.gated.durable self.old.gated.stripe Answer }
         requires sizes { AreSizes place.blocks place.region (length legs.items) }
@@ -96,18 +122,17 @@ impl<L: LegPart, J: Naming> Held<L, J> {
             self.old.gated.durable }
         ensures stays { result ≡ false → self.new ≡ self.old }
     {
-        let master = self.gated.stripe.master();
-        if !self.gated.stripe.is_stopped()
-            || master as usize >= legs.len()
-            || !self.names_at_most_the_master()
-        {
+        if !self.may_reopen(place, legs.len()) {
             return false;
         }
+        let master = self.gated.stripe.master();
         let end = self.gated.stripe.end();
         let first = self.gated.stripe.next_number();
         match Stripe::open(alloc, place, legs, only_bit::<L>(master), first, policy) {
             Ok(stripe) => {
+                stripe.keeps();
                 self.gated.stripe = stripe;
+                self.trail.note_own::<Opening, _>(&self.gated, &());
                 self.past.add(&end);
                 self.openings = self.openings.saturating_add(1);
                 self.unclaimed = Unclaimed::new();

@@ -1,4 +1,4 @@
-ghost use Rattle.std.specs.Prelude.{◌≡◌, IfSome};
+ghost use Rattle.std.specs.Prelude.{◌≡◌, [], IfSome};
 ghost use Rattle.std.specs.Sync.Mutex.{mutex_guard_value};
 ghost use Rattle.nm_mirror.specs.Asks.{LetsPass};
 
@@ -7,6 +7,7 @@ use crate::door::Door;
 use crate::held::Held;
 use crate::save_desk::SaveDesk;
 use crate::stripe_end::StripeEnd;
+use crate::trail::{Log, StripeKeeper};
 use nm_book::Naming;
 use nm_gate::{GateRefusal, GatedStripe};
 use nm_leg::LegPart;
@@ -26,6 +27,14 @@ const DUE_TURNS: u8 = 6;
 
 // As many bytes as a cache line has.
 type Line = [u64; 8];
+
+/// What each lock of a mirror has a share of: where saves are asked for, in a mirror with
+/// superblocks, and the log.
+#[derive(Drop)]
+pub(crate) struct Beside<L: LegPart, J: Naming> {
+    pub desk: Option<Arc<SaveDesk>>,
+    pub book: Arc<Log<L, J>>,
+}
 
 /// The lock of one stripe, with the stripe and its gate behind it.
 ///
@@ -51,21 +60,28 @@ pub struct Lock<L: LegPart, J: Naming> {
 }
 
 impl<L: LegPart, J: Naming> Lock<L, J> {
-    /// This stripe behind a lock, which has its number. Nothing was written yet, and a sync is due:
-    /// what the legs hold may have come before their opening.
-    pub(crate) fn new(gated: GatedStripe<L>, desk: Option<Arc<SaveDesk>>) -> Self
+    /// This stripe behind a lock, which has its number, with the keeper of its shard of the log.
+    /// Nothing was noted or written yet, and a sync is due: what the legs hold may have come before
+    /// their opening.
+    pub(crate) fn new(
+        gated: GatedStripe<L>,
+        beside: Beside<L, J>,
+        keeper: StripeKeeper<L, J>,
+    ) -> Self
+        requires none { keeper.all ≡ [] }
+        requires own { keeper.shard ≡ gated.stripe.place.stripe }
         ensures { result.number ≡ gated.stripe.place.stripe }
     {
         Lock {
             before: [0; 8],
             number: gated.stripe.number(),
-            held: Mutex::new(Held::new(gated)),
+            held: Mutex::new(Held::new(gated, beside.book, keeper)),
             unsynced: AtomicBool::new(false),
             age: AtomicU8::new(DUE_TURNS + 1),
             written: AtomicBool::new(false),
             door: Door::new(),
             got: AtomicU64::new(0),
-            desk,
+            desk: beside.desk,
             after: [0; 8],
         }
     }

@@ -1,12 +1,14 @@
 ghost use Rattle.std.specs.Prelude.{◌≡◌, ◌<◌, length, map, IfOk, IfErr};
+ghost use Rattle.nm_book.specs.Log.{shard_of};
 ghost use Rattle.std.specs.Sync.Mutex.{mutex_guard_value};
 ghost use Rattle.std.specs.Vec.{vec_len};
 ghost use Rattle.nm_mirror.specs.Numbers.{AreInOrder};
 ghost use Rattle.nm_mirror.specs.Stripes.{AreStripesOf};
 
 use crate::held::Held;
-use crate::lock::Lock;
+use crate::lock::{Beside, Lock};
 use crate::save_desk::SaveDesk;
+use crate::trail::{EmptyLog, Log, StripeKeepers};
 use nm_book::Naming;
 use nm_gate::GatedStripe;
 use nm_geometry::Shape;
@@ -54,34 +56,44 @@ fn share_of(desk: &Option<Arc<SaveDesk>>) -> Result<Option<Arc<SaveDesk>>, Alloc
     }
 }
 
-/// So many shares of it, if there is one.
-fn shares_of(
+/// So many shares of the log, and of where saves are asked for, if there is such a place.
+fn shares_of<L: LegPart, J: Naming>(
     alloc: Global,
     desk: &Option<Arc<SaveDesk>>,
+    book: &Arc<Log<L, J>>,
     count: usize,
-) -> Result<Vec<Option<Arc<SaveDesk>>>, AllocError>
+) -> Result<Vec<Beside<L, J>>, AllocError>
     ensures { IfOk result (λ shares. length shares.items ≡ count) }
 {
     let mut shares = Vec::new(alloc);
     shares.reserve(count)?;
     while shares.len() < count {
-        shares.push_reserved(share_of(desk)?);
+        shares.push_reserved(Beside {
+            desk: share_of(desk)?,
+            book: Arc::try_clone(book)?,
+        });
     }
     Ok(shares)
 }
 
-/// Each stripe behind a lock of its own, in order. Where memory is refused the stripes come back.
+/// Each stripe behind a lock of its own, in order, with the keeper of its shard of the log. Where
+/// memory is refused the stripes come back.
 fn lock_each<L: LegPart, J: Naming>(
     alloc: Global,
     stripes: Vec<GatedStripe<L>>,
     desk: &Option<Arc<SaveDesk>>,
+    book: &Arc<Log<L, J>>,
+    mut keepers: StripeKeepers<L, J>,
 ) -> Result<Vec<Lock<L, J>>, Vec<GatedStripe<L>>>
+    requires first { shard_of keepers.seat.me.0.role ≡ 0 }
+    requires in_order { AreInOrder
+        (map (λ gated. gated.stripe.place.stripe) stripes.items) }
     ensures each { IfOk result (λ locks. length locks.items ≡ length stripes.items) }
     ensures numbers { IfOk result (λ locks. map (λ lock. lock.number) locks.items
         ≡ map (λ gated. gated.stripe.place.stripe) stripes.items) }
     ensures handed_back { IfErr result (λ back. back.items ≡ stripes.items) }
 {
-    let Ok(mut shares) = shares_of(alloc, desk, stripes.len()) else {
+    let Ok(mut shares) = shares_of(alloc, desk, book, stripes.len()) else {
         return Err(stripes);
     };
     let mut locks = Vec::new(alloc);
@@ -92,7 +104,8 @@ fn lock_each<L: LegPart, J: Naming>(
     rest.reverse();
     while let Some(gated) = rest.pop() {
         let share = shares.pop().unwrap();
-        locks.push_reserved(Lock::new(gated, share));
+        let keeper = book.keeper(&mut keepers);
+        locks.push_reserved(Lock::new(gated, share, keeper));
     }
     Ok(locks)
 }
@@ -103,13 +116,15 @@ fn bit_of(leg: u8) -> u32 {
 }
 
 impl<L: LegPart, G: Gate + Drop, J: Naming> Mirror<L, G, J> {
-    /// A mirror of these stripes, of which each has what a superblock may say of it, or none has.
-    /// Where memory is refused the stripes and the gate come back.
+    /// A mirror of these stripes, of which each has what a superblock may say of it, or none has,
+    /// with the log of what is done to them. Where memory is refused the stripes and the gate come
+    /// back.
     pub fn new(
         alloc: Global,
         shape: Shape,
         stripes: Vec<GatedStripe<L>>,
         gate: G,
+        log: EmptyLog<L, J>,
     ) -> Result<Mirror<L, G, J>, (Memory, Vec<GatedStripe<L>>, G)>
         requires { AreStripesOf shape (map (λ gated. gated.stripe) stripes.items) }
         ensures made { IfOk result (λ mirror. (mirror.shape ≡ shape) × (mirror.gate ≡ gate)) }
@@ -119,7 +134,11 @@ impl<L: LegPart, G: Gate + Drop, J: Naming> Mirror<L, G, J> {
         let Ok(desk) = desk_for(alloc, &stripes) else {
             return Err((Memory, stripes, gate));
         };
-        let locks = match lock_each(alloc, stripes, &desk) {
+        let EmptyLog { book, keepers } = log;
+        let Ok(book) = Arc::new(alloc, book) else {
+            return Err((Memory, stripes, gate));
+        };
+        let locks = match lock_each(alloc, stripes, &desk, &book, keepers) {
             Ok(locks) => locks,
             Err(stripes) => return Err((Memory, stripes, gate)),
         };

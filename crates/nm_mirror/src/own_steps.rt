@@ -1,13 +1,15 @@
 //! The steps on the stripe behind a lock that no pass counts.
-ghost use Rattle.std.specs.Prelude.{◌≡◌, ◌<◌, ◌≤◌, ℕ, length, IfErr, IfOk, IfSome, IsTrue, OnErr};
-ghost use Rattle.std.specs.Prelude.{OnOk, Some, false, slice_index_or};
-ghost use Rattle.nm_gate.specs.Changes.{Leads};
-ghost use Rattle.nm_gate.specs.Claims.{HasMarks, marks_of};
+ghost use Rattle.std.specs.Prelude.{◌≡◌, ◌<◌, length, IfErr, IfOk, IfSome, OnErr};
+ghost use Rattle.std.specs.Option.{option_map};
+ghost use Rattle.std.specs.Prelude.{OnOk, Some};
+ghost use Rattle.nm_gate.specs.Changes.{Leads, cleared};
+ghost use Rattle.nm_gate.specs.Claims.{HasMarks};
 ghost use Rattle.nm_gate.specs.Gate.{IsAllowed};
 ghost use Rattle.nm_gate.specs.Returning.{suspects};
+ghost use Rattle.nm_gate.specs.Settling.{MayClear};
 ghost use Rattle.nm_leg.specs.Leg.{leg_type};
 ghost use Rattle.nm_mirror.specs.Asks.{LetsPass};
-ghost use Rattle.nm_mirror.specs.Holding.{with_gated, with_legs, with_stripe};
+ghost use Rattle.nm_mirror.specs.Holding.{with_gated, with_stripe};
 ghost use Rattle.nm_mirror.specs.Saving.{BeginsAt, EndsAt, FailsAt, claims_in};
 ghost use Rattle.nm_mirror.specs.declared.ask.Ask.TheVariants as ask;
 ghost use Rattle.nm_rules.specs.Attach.{Replaces, Returns, attach_cause};
@@ -22,19 +24,18 @@ ghost use Rattle.nm_stripe.specs.Fail.{Fails};
 ghost use Rattle.nm_stripe.specs.Push.{Reaches};
 ghost use Rattle.nm_stripe.specs.Sync.{EndsJoining, FlushesLeg, RefusesSync};
 ghost use Rattle.nm_stripe.specs.declared.step.Step.TheVariants as step;
-ghost use Rattle.nm_verify.specs.Agreement.{Agrees};
-ghost use Rattle.nm_verify.specs.Looks.{Begins, Sees};
 
 use crate::held::Held;
 use crate::save_order::SaveOrder;
+use crate::trail::{Clearing, Plans};
 use nm_book::Naming;
 use nm_gate::LegClaims;
 use nm_leg::LegPart;
 use nm_stripe::{Copying, Failing, Promotion, Reach, Refusal, Syncing, Written};
-use nm_verify::{Agreed, Begun, Cursor, Half, Seen, look_first, look_second, look_without};
+use std::marker::Brand;
 
-/// Each is one step of the stripe or of its gate, with its answer, or a look, and changes nothing
-/// else that is held. Together with the steps of a pass and with `reopen` they are all that changes
+/// Each is one step of the stripe or of its gate, with its answer, is noted, and changes nothing else
+/// that is held. Together with the steps of a pass, the looks and `reopen` they are all that changes
 /// a stripe of a mirror: nobody else is lent one.
 impl<L: LegPart, J: Naming> Held<L, J> {
     /// Pushes a write whose call does not do so.
@@ -47,7 +48,10 @@ impl<L: LegPart, J: Naming> Held<L, J> {
         ensures stays { OnErr result (self.new ≡ self.old) }
         ensures others { self.new ≡ with_stripe self.new.gated.stripe self.old }
     {
-        self.gated.stripe.push(ticket, leg)
+        let reach = self.gated.stripe.push(ticket, leg);
+        self.trail
+            .note_own::<Brand, _>(&self.gated, &(ticket, leg, &reach));
+        reach
     }
 
     /// Claims a write whose call has ended.
@@ -59,11 +63,15 @@ impl<L: LegPart, J: Naming> Held<L, J> {
         ensures stays { OnErr result (self.new ≡ self.old) }
         ensures others { self.new ≡ with_stripe self.new.gated.stripe self.old }
     {
-        self.gated.stripe.claim(ticket)
+        let claimed = self.gated.stripe.claim(ticket);
+        self.trail
+            .note_own::<Brand, _>(&self.gated, &(ticket, &claimed));
+        claimed
     }
 
     /// Flushes a leg.
     pub(crate) fn flush_leg(&mut self, leg: u8) -> Result<Syncing, Refusal>
+        requires saved { LetsPass self.old.gated.durable self.old.gated.stripe ask.Answer }
         requires leg { leg < length self.old.gated.stripe.legs }
         ensures ok { IfOk result (FlushesLeg (leg_type L.model L.honest) self.old.gated.stripe
             self.new.gated.stripe leg) }
@@ -71,11 +79,16 @@ impl<L: LegPart, J: Naming> Held<L, J> {
             self.old.gated.stripe self.new.gated.stripe leg) }
         ensures others { self.new ≡ with_stripe self.new.gated.stripe self.old }
     {
-        self.gated.stripe.flush(leg)
+        let syncing = self.gated.stripe.flush(leg);
+        self.trail
+            .note_own::<Brand, _>(&self.gated, &(leg, &syncing));
+        syncing
     }
 
     /// Does a step of the copy to a leg.
     pub(crate) fn copy_leg(&mut self, leg: u8, most: u64, from: u64) -> Result<Copying, Refusal>
+        requires allowed { IsAllowed self.old.gated.durable self.old.gated.stripe
+            (step.Copy leg most from) }
         requires leg { leg < length self.old.gated.stripe.legs }
         requires some { 0 < most }
         ensures ok { IfOk result (Copies (leg_type L.model L.honest) self.old.gated.stripe
@@ -84,11 +97,16 @@ impl<L: LegPart, J: Naming> Held<L, J> {
             self.old.gated.stripe self.new.gated.stripe leg most from) }
         ensures others { self.new ≡ with_stripe self.new.gated.stripe self.old }
     {
-        self.gated.stripe.copy(leg, most, from)
+        let copying = self.gated.stripe.copy(leg, most, from);
+        self.trail
+            .note_own::<Brand, _>(&self.gated, &(leg, most, from, &copying));
+        copying
     }
 
     /// Calls a leg in sync, or takes it out.
     pub(crate) fn promote_leg(&mut self, leg: u8) -> Result<Promotion, Refusal>
+        requires allowed { IsAllowed self.old.gated.durable self.old.gated.stripe
+            (step.Promote leg) }
         requires leg { leg < length self.old.gated.stripe.legs }
         ensures ok { IfOk result (EndsJoining (leg_type L.model L.honest) self.old.gated.stripe
             self.new.gated.stripe leg) }
@@ -97,7 +115,10 @@ impl<L: LegPart, J: Naming> Held<L, J> {
         ensures stays { OnErr result (self.new ≡ self.old) }
         ensures others { self.new ≡ with_stripe self.new.gated.stripe self.old }
     {
-        self.gated.stripe.promote(leg)
+        let promotion = self.gated.stripe.promote(leg);
+        self.trail
+            .note_own::<Brand, _>(&self.gated, &(leg, &promotion));
+        promotion
     }
 
     /// Takes a leg out.
@@ -109,7 +130,10 @@ impl<L: LegPart, J: Naming> Held<L, J> {
         ensures stays { OnErr result (self.new ≡ self.old) }
         ensures others { self.new ≡ with_stripe self.new.gated.stripe self.old }
     {
-        self.gated.stripe.fail(leg)
+        let failing = self.gated.stripe.fail(leg);
+        self.trail
+            .note_own::<Brand, _>(&self.gated, &(leg, &failing));
+        failing
     }
 
     /// Lets a leg join again, as one that may have lost something.
@@ -125,7 +149,10 @@ impl<L: LegPart, J: Naming> Held<L, J> {
         ensures stays { OnErr result (self.new.gated.stripe ≡ self.old.gated.stripe) }
         ensures others { self.new ≡ with_stripe self.new.gated.stripe self.old }
     {
-        self.gated.return_leg(leg)
+        let returned = self.gated.return_leg(leg);
+        self.trail
+            .note_own::<Brand, _>(&self.gated, &(leg, &returned));
+        returned
     }
 
     /// Puts another leg in the place of one that is out.
@@ -140,7 +167,27 @@ impl<L: LegPart, J: Naming> Held<L, J> {
         ensures stays { OnErr result (self.new ≡ self.old) }
         ensures others { self.new ≡ with_stripe self.new.gated.stripe self.old }
     {
-        self.gated.stripe.replace(leg, part)
+        self.replace_leg_as::<Brand>(leg, part)
+    }
+
+    // The same, told as this step. One that is refused changes nothing, and is not noted.
+    fn replace_leg_as<S: Plans<L>>(&mut self, leg: u8, part: L) -> Result<u64, (Refusal, L)>
+        requires told { S.step ≡ step.Replace leg part }
+        requires passes { LetsPass self.old.gated.durable self.old.gated.stripe (ask.Replace leg) }
+        requires leg { leg < length self.old.gated.stripe.legs }
+        requires length { length (L.model part).contents ≡ self.old.gated.stripe.place.blocks }
+        ensures ok { OnOk result (Replaces self.old.gated.stripe self.new.gated.stripe leg part) }
+        ensures left { IfOk result (λ blocks. blocks ≡ left leg self.new.gated.stripe) }
+        ensures cause { IfErr result (λ refused.
+            attach_cause self.old.gated.stripe leg ≡ Some refused.0) }
+        ensures stays { OnErr result (self.new ≡ self.old) }
+        ensures others { self.new ≡ with_stripe self.new.gated.stripe self.old }
+    {
+        let replaced = self.gated.stripe.replace(leg, part);
+        if replaced.is_ok() {
+            self.trail.note_own::<Brand, _>(&self.gated, &replaced);
+        }
+        replaced
     }
 
     /// Begins a save with these marks: what the next superblock says of the legs.
@@ -154,7 +201,10 @@ impl<L: LegPart, J: Naming> Held<L, J> {
             self.new.gated.stripe self.new.gated.durable }
         ensures others { self.new ≡ with_gated self.new.gated self.old }
     {
-        self.gated.begin_save(marked)
+        self.gated.stripe.keeps();
+        let claims = self.gated.begin_save(marked);
+        self.trail.note_save(&self.gated);
+        claims
     }
 
     /// Ends a save: this order's superblock is the durable one.
@@ -166,8 +216,10 @@ impl<L: LegPart, J: Naming> Held<L, J> {
             self.new.gated.stripe self.new.gated.durable }
         ensures others { self.new ≡ with_gated self.new.gated self.old }
     {
+        self.gated.stripe.keeps();
         let claims = order.claims_on(self.gated.stripe.number());
         self.gated.end_save(claims, &order.spans);
+        self.trail.note_save(&self.gated);
     }
 
     /// Says that a save could not be done.
@@ -179,63 +231,21 @@ impl<L: LegPart, J: Naming> Held<L, J> {
         ensures others { self.new ≡ with_gated self.new.gated self.old }
     {
         self.gated.fail_save();
+        self.trail.note_save(&self.gated);
     }
 
-    /// Clears all marks, where the gate can settle. Whether nothing is marked any more.
-    pub(crate) fn settle(&mut self) -> bool
-        ensures settled { IsTrue result → (span : ℕ)
-            → slice_index_or (marks_of self.new.gated.durable) span false ≡ false }
-        ensures stays { result ≡ false → self.new.gated.durable ≡ self.old.gated.durable }
+    /// Clears all marks, once each leg was synced since they might be cleared so.
+    pub(crate) fn clear(&mut self)
+        requires { IfSome self.old.gated.durable
+            (MayClear (leg_type L.model L.honest) self.old.gated.stripe) }
+        ensures stripe { self.new.gated.stripe ≡ self.old.gated.stripe }
+        ensures durable { self.new.gated.durable
+            ≡ option_map cleared self.old.gated.durable }
         ensures others { self.new ≡ with_gated self.new.gated self.old }
     {
-        self.gated.settle()
-    }
-
-    /// Looks at the first leg there, which is compared with another.
-    pub(crate) fn look_first(&mut self, at: Cursor, held: &mut [u8]) -> Begun
-        requires room { length held.old ≡ 65536 }
-        ensures begins { Begins (leg_type L.model L.honest) at
-            (self.old.gated.stripe, self.new.gated.stripe) held.new result }
-        ensures room { length held.new ≡ 65536 }
-        ensures others { self.new ≡ with_legs self.new.gated.stripe.legs self.old }
-    {
-        look_first(&mut self.gated.stripe, at, held)
-    }
-
-    /// Looks at the second leg there.
-    pub(crate) fn look_second(
-        &mut self,
-        at: Cursor,
-        half: Half,
-        held: &[u8],
-        found: &mut [u8],
-    ) -> Seen
-        requires held { length held.now ≡ 65536 }
-        requires room { length found.old ≡ 65536 }
-        ensures sees { Sees (leg_type L.model L.honest) (at, half)
-            (self.old.gated.stripe, self.new.gated.stripe) held.now found.new result }
-        ensures room { length found.new ≡ 65536 }
-        ensures others { self.new ≡ with_legs self.new.gated.stripe.legs self.old }
-    {
-        look_second(&mut self.gated.stripe, at, half, held, found)
-    }
-
-    /// Looks at what all legs in sync but this one hold of the run there.
-    pub(crate) fn look_without(
-        &mut self,
-        at: Cursor,
-        leg: u8,
-        held: &mut [u8],
-        found: &mut [u8],
-    ) -> Option<Agreed>
-        requires held { length held.old ≡ 65536 }
-        requires room { length found.old ≡ 65536 }
-        ensures agrees { IfSome result (Agrees (leg_type L.model L.honest) (at, leg)
-            self.old.gated.stripe held.new) }
-        ensures most { IfSome result (λ agreed. (0 < agreed.count) × (agreed.count ≤ 128)) }
-        ensures long { (length held.new ≡ 65536) × (length found.new ≡ 65536) }
-        ensures others { self.new ≡ with_legs self.new.gated.stripe.legs self.old }
-    {
-        look_without(&mut self.gated.stripe, at, leg, held, found)
+        self.gated.clear();
+        if self.gated.durable.is_some() {
+            self.trail.note_own::<Clearing, _>(&self.gated, &());
+        }
     }
 }

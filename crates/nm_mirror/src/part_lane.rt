@@ -8,21 +8,25 @@ ghost use Rattle.nm_lanes.specs.Done.{done_as};
 ghost use Rattle.nm_leg.specs.Leg.{leg_type};
 ghost use Rattle.nm_part.specs.Parts.{part_of};
 ghost use Rattle.nm_mirror.specs.Counting.{Follows};
+ghost use Rattle.nm_book.specs.Log.{IsLegal};
+ghost use Rattle.nm_history.specs.History.{LegalMoves};
 
 use crate::ask::Ask;
 use crate::held::Held;
 use crate::lock::Lock;
 use crate::sight::Sight;
+use crate::trail::LogPass;
 use nm_book::Naming;
 use nm_fanout::Data;
 use nm_lanes::Lane;
 use nm_leg::LegPart;
 use nm_part::Part;
 use nm_stripe::{Beginning, Copying, Reach, Reading, Refusal, Syncing, Written};
-use std::marker::{Model, PhantomData};
+use std::marker::Model;
 use std::sync::Wait;
 
-/// The part of a pass in one stripe, as a lane over the stripe's lock.
+/// The part of a pass in one stripe, as a lane over the stripe's lock, with a pass of its own through
+/// the log of the mirror: each step for which the stripe was asked is noted there.
 ///
 /// A begin, a claim, a sync and a copy wait until the stripe's gate lets them pass. Where no
 /// superblock can be saved, what the gate refuses is refused as `SaveFailed`, and so is a write
@@ -30,27 +34,27 @@ use std::sync::Wait;
 /// of the stripe in which it began: then its claim is refused as `NoTicket`, since another may have
 /// its ticket.
 #[derive(Drop)]
-pub struct PartLane<L, J: Naming> {
+pub struct PartLane<L: LegPart, J: Naming> {
     part: Part<L>,
+    pass: LogPass<L, J>,
     // The opening of the stripe in which the last write began.
     opening: u64,
     // The look since which no other write may have begun where one begins, if there is such a look.
     since: Option<Sight>,
-    of: PhantomData<J>,
 }
 
-impl<L, J: Naming> Model for PartLane<L, J> {
-    ghost use Rattle.nm_part.specs.PartState.{PartState};
+impl<L: LegPart, J: Naming> Model for PartLane<L, J> {
+    ghost use Rattle.nm_mirror.specs.LaneState.{LaneState};
 
-    ghost Value = { PartState };
+    ghost Value = { LaneState L };
 
-    ghost view = { λ lane. lane.part };
+    ghost view = { λ lane. record { part = lane.part; pass = lane.pass } };
 }
 
-impl<L, J: Naming> PartLane<L, J> {
+impl<L: LegPart, J: Naming> PartLane<L, J> {
     /// How many entries the part was given.
     pub fn count(&self) -> u64
-        ensures { result ≡ self.now.count }
+        ensures { result ≡ self.now.part.count }
     {
         self.part.count()
     }
@@ -64,15 +68,17 @@ impl<L, J: Naming> PartLane<L, J> {
 }
 
 impl<L: LegPart, J: Naming> PartLane<L, J> {
-    /// The part of a pass that is made now.
+    /// The part of a pass that is made now, of which nothing was noted yet.
     pub(crate) fn of(held: &Held<L, J>) -> Self
-        ensures { result ≡ part_of held.now.gated.stripe }
+        ensures part { result.part ≡ part_of held.now.gated.stripe }
+        ensures mine { result.pass.mine ≡ [] }
+        ensures legal { IsLegal (LegalMoves (leg_type L.model L.honest)) result.pass.seen }
     {
         PartLane {
             part: Part::of(&held.gated.stripe),
+            pass: held.trail.pass(),
             opening: held.openings,
             since: None,
-            of: PhantomData,
         }
     }
 
@@ -86,9 +92,9 @@ impl<L: LegPart, J: Naming> PartLane<L, J> {
 }
 
 impl<L: LegPart, J: Naming> Lane<L, Lock<L, J>> for PartLane<L, J> {
-    ghost use Rattle.std.specs.Prelude.{◌≡◌, refl};
     ghost use Rattle.nm_leg.specs.Leg.{leg_type};
-    ghost use Rattle.nm_mirror.specs.Counting.{Follows, part-joined};
+    ghost use Rattle.nm_mirror.specs.Counting.{Follows};
+    ghost use Rattle.nm_mirror.specs.Joining.{lane-joined, lane-stays};
 
     ghost follows = { Follows (leg_type L.model L.honest) };
 
@@ -108,7 +114,7 @@ impl<L: LegPart, J: Naming> Lane<L, Lock<L, J>> for PartLane<L, J> {
             Some(held) if self.is_late(&held) => Err((Refusal::SaveFailed, data)),
             Some(mut held) => {
                 self.opening = held.openings;
-                held.begin(&mut self.part, block, data)
+                held.begin(&mut self.part, &mut self.pass, block, data)
             }
             None => Err((Refusal::SaveFailed, data)),
         }
@@ -127,7 +133,7 @@ impl<L: LegPart, J: Naming> Lane<L, Lock<L, J>> for PartLane<L, J> {
     {
         let mut held = lock.hold_to_write(rt);
         lock.note_write();
-        held.push(&mut self.part, ticket, leg)
+        held.push(&mut self.part, &mut self.pass, ticket, leg)
     }
 
     #[inline(always)]
@@ -142,7 +148,7 @@ impl<L: LegPart, J: Naming> Lane<L, Lock<L, J>> for PartLane<L, J> {
     {
         match lock.hold_for(rt, Ask::Answer) {
             Some(held) if held.openings != self.opening => Err(Refusal::NoTicket),
-            Some(mut held) => held.claim(&mut self.part, ticket),
+            Some(mut held) => held.claim(&mut self.part, &mut self.pass, ticket),
             None => {
                 lock.leave_write(rt, self.opening, ticket);
                 Err(Refusal::SaveFailed)
@@ -162,7 +168,8 @@ impl<L: LegPart, J: Naming> Lane<L, Lock<L, J>> for PartLane<L, J> {
             (done_as (step.Read block into.old) (answer_of_read result into.new) ∷ []) self.new }
         ensures target { LeavesTarget result into.old into.new }
     {
-        lock.hold(rt).read(&mut self.part, block, into)
+        lock.hold(rt)
+            .read(&mut self.part, &mut self.pass, block, into)
     }
 
     fn flush<R: Wait>(&mut self, rt: &R, lock: &Lock<L, J>, leg: u8) -> Result<Syncing, Refusal>
@@ -173,7 +180,7 @@ impl<L: LegPart, J: Naming> Lane<L, Lock<L, J>> for PartLane<L, J> {
             return Err(Refusal::SaveFailed);
         };
         lock.note_sync();
-        held.flush(&mut self.part, leg)
+        held.flush(&mut self.part, &mut self.pass, leg)
     }
 
     fn copy<R: Wait>(
@@ -191,7 +198,7 @@ impl<L: LegPart, J: Naming> Lane<L, Lock<L, J>> for PartLane<L, J> {
             return Err(Refusal::SaveFailed);
         };
         lock.note_write();
-        held.copy(&mut self.part, leg, most, from)
+        held.copy(&mut self.part, &mut self.pass, leg, most, from)
     }
 
     fn owed<R: Wait>(&self, rt: &R, lock: &Lock<L, J>, ticket: Option<u64>) -> Option<(u64, u8)> {
@@ -202,8 +209,8 @@ impl<L: LegPart, J: Naming> Lane<L, Lock<L, J>> for PartLane<L, J> {
         }
     }
 
-    ghost stays = { λ part. (refl, tt) };
+    ghost stays = { λ lane. lane-stays (leg_type L.model L.honest) lane };
 
     ghost joins = { λ first mid last before after p q.
-        part-joined (leg_type L.model L.honest) first mid last before after p q };
+        lane-joined (leg_type L.model L.honest) first mid last before after p q };
 }

@@ -2,7 +2,9 @@
 ghost use Rattle.std.specs.Prelude.{◌≡◌, ◌+◌, ◌≤◌, [], length, map, vec_capacity};
 ghost use Rattle.std.specs.Prelude.{IfOk, IfErr, OnErr, OnOk};
 ghost use Rattle.nm_mirror.specs.Numbers.{AreInOrder};
-ghost use Rattle.nm_mirror.specs.Passes.{HasCountedNothing, RefusesOneMore, RefusesPass};
+ghost use Rattle.nm_leg.specs.Leg.{leg_type};
+ghost use Rattle.nm_mirror.specs.Passes.{HasCountedNothing, HasNotedNothing, RefusesOneMore};
+ghost use Rattle.nm_mirror.specs.Passes.{RefusesPass};
 
 use crate::mirror::Mirror;
 use crate::part_lane::PartLane;
@@ -20,12 +22,12 @@ pub const MOST_PASSES: u32 = 1024;
 /// One client's way through a mirror: a part for each stripe, which counts the entries that the
 /// client's steps were given.
 #[derive(Drop)]
-pub struct Pass<L, J: Naming> {
+pub struct Pass<L: LegPart, J: Naming> {
     pub(crate) number: u32,
     pub(crate) parts: Vec<PartLane<L, J>>,
 }
 
-impl<L, J: Naming> Pass<L, J> {
+impl<L: LegPart, J: Naming> Pass<L, J> {
     /// How many stripes the pass goes through: one part each.
     pub fn stripes(&self) -> usize
         ensures { result ≡ length self.now.parts.items }
@@ -47,7 +49,7 @@ impl<L, J: Naming> Pass<L, J> {
 /// Counts one pass more than were made, which has room for so many parts.
 ///
 /// Refused as `TooMany` where 1,024 were made, or as `Memory`: then it is not counted.
-fn begin_pass<L, J: Naming>(
+fn begin_pass<L: LegPart, J: Naming>(
     alloc: Global,
     made: &mut u32,
     stripes: usize,
@@ -80,8 +82,10 @@ impl<L: LegPart, G: Gate + Drop, J: Naming> Mirror<L, G, J> {
         ensures stripes { IfOk result (λ pass.
             length pass.parts.items ≡ length self.now.locks.items) }
         ensures numbers { IfOk result (λ pass.
-            AreInOrder (map (λ part. part.stripe) pass.parts.items)) }
+            AreInOrder (map (λ lane. lane.part.stripe) pass.parts.items)) }
         ensures counted { IfOk result (λ pass. HasCountedNothing pass.parts.items) }
+        ensures noted { IfOk result (λ pass.
+            HasNotedNothing (leg_type L.model L.honest) pass.parts.items) }
         ensures refused { IfErr result RefusesPass }
     {
         let mut pass = begin_pass(alloc, &mut self.made.lock(rt), self.locks.len())?;

@@ -7,7 +7,9 @@ ghost use Rattle.nm_leg.specs.Leg.{leg_type};
 ghost use Rattle.nm_gate.specs.Claims.{legs_where, marks_of};
 ghost use Rattle.nm_gate.specs.Settling.{EndsInFailure, MaySettle, TriesSync};
 ghost use Rattle.nm_geometry.specs.LegSets.{AreBitsOf};
+ghost use Rattle.nm_mirror.specs.Asks.{LetsPass};
 ghost use Rattle.nm_mirror.specs.Holding.{with_gated, with_stripe};
+ghost use Rattle.nm_mirror.specs.declared.ask.Ask.TheVariants as ask;
 ghost use Rattle.nm_mirror.specs.Settling.{WasSynced, SyncsFirst, SyncsSome};
 ghost use Rattle.nm_mirror.specs.Settling.{HasAtWork, is_at_work};
 
@@ -24,7 +26,8 @@ use std::sync::Wait;
 
 /// Flushes the leg, if it is not out. Whether it does not fail.
 fn flush_one<L: LegPart, J: Naming>(held: &mut Held<L, J>, leg: u8) -> bool
-    requires { leg < length held.old.gated.stripe.legs }
+    requires saved { LetsPass held.old.gated.durable held.old.gated.stripe ask.Answer }
+    requires leg { leg < length held.old.gated.stripe.legs }
     ensures tries { TriesSync (leg_type L.model L.honest) leg result held.old.gated.stripe
         held.new.gated.stripe }
     ensures others { held.new ≡ with_stripe held.new.gated.stripe held.old }
@@ -39,6 +42,7 @@ fn flush_one<L: LegPart, J: Naming>(held: &mut Held<L, J>, leg: u8) -> bool
 
 /// Flushes each leg of the stripe that is not out, until one fails. Whether none does.
 fn flush_legs<L: LegPart, J: Naming>(held: &mut Held<L, J>) -> bool
+    requires { LetsPass held.old.gated.durable held.old.gated.stripe ask.Answer }
     ensures synced { IsTrue result → SyncsFirst (leg_type L.model L.honest)
         (length held.old.gated.stripe.legs) held.old.gated.stripe held.new.gated.stripe }
     ensures failed { result ≡ false
@@ -111,8 +115,7 @@ fn has_doubted<L: LegPart>(stripe: &Stripe<L>, doubted: &LegSet) -> bool
 /// and has none.
 ///
 /// Its legs are synced before it is looked whether one is in doubt: a power loss under way would
-/// fail a call by then. The syncs by which the gate settles make no call any more, since nothing
-/// was written since.
+/// fail a call by then.
 fn try_settle<L: LegPart, J: Naming, D: Doubts>(held: &mut Held<L, J>, doubts: &D) -> bool
     ensures none { held.old.gated.durable ≡ None → result ≡ false }
     ensures marked { IfSome held.old.gated.durable (λ d. IsTrue result
@@ -129,13 +132,15 @@ fn try_settle<L: LegPart, J: Naming, D: Doubts>(held: &mut Held<L, J>, doubts: &
     if !held.gated.may_settle() {
         return false;
     }
+    held.gated.stripe.keeps();
     if !flush_legs(held) {
         return false;
     }
     if has_doubted(&held.gated.stripe, &doubted_of(doubts)) {
         return false;
     }
-    held.settle()
+    held.clear();
+    true
 }
 
 /// The legs that are not out in the stripe, a bit each.

@@ -3,7 +3,7 @@ use Rattle.std.proofs.Common.{◌≡◌, ℕ, suc, ◌+◌, List, [], ◌∷◌,
 use Rattle.nm_geometry.specs.Geometry.{Geometry}
 use Rattle.nm_lanes.specs.Ends.{EachLane}
 use Rattle.nm_leg.specs.Leg.{LegType}
-use Rattle.nm_part.specs.PartState.{PartState}
+use Rattle.nm_mirror.specs.LaneState.{LaneState}
 use Rattle.nm_server.specs.Calls.{Acts}
 use Rattle.nm_session.specs.declared.target_fault.TargetFault.TheVariants.{Memory, Io, Full}
 use Rattle.nm_session.specs.Target.{TargetCall, Reads, Writes, Zeroes, Flushes, Syncs}
@@ -18,7 +18,7 @@ each-as-many Goes stripe [] (after ∷ new) each = absurd each
 each-as-many Goes stripe (before ∷ old) [] each = absurd each
 
 -- whatever the call is and is answered
-pub as-many : {L : Type 0} (type : LegType L) (shape : Geometry) (call : TargetCall) (old new : List PartState)
+pub as-many : {L : Type 0} (type : LegType L) (shape : Geometry) (call : TargetCall) (old new : List (LaneState L))
     → Acts type shape call (old, new) → length new ≡ length old
 as-many type shape (Reads offset bytes (Ok done)) old new acts = acts.does.leads.as_many
 as-many type shape (Reads offset bytes (Err Memory)) old new acts = absurd acts

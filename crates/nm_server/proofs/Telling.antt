@@ -9,7 +9,7 @@ use Rattle.nm_reports.specs.declared.mirror_call.MirrorCall.TheVariants as mirro
 use Rattle.nm_session.specs.declared.target_fault.TargetFault.TheVariants.{Memory, Io, Full}
 use Rattle.nm_session.specs.Target.{Answer}
 
-pub told-acts : {L : Type 0} (type : LegType L) (shape : Geometry) (call : MirrorCall) (bytes : List ℕ) (answer : Answer) (parts : Parts)
+pub told-acts : {L : Type 0} (type : LegType L) (shape : Geometry) (call : MirrorCall) (bytes : List ℕ) (answer : Answer) (parts : Parts L)
     (is_full : Bool) → Acts type shape (answered call bytes answer) parts
     → Acts type shape (answered call bytes (told (changes call && is_full) answer)) parts
 told-acts type shape (mirror.Write offset payload) bytes (Ok done) parts true acts = acts

@@ -12,8 +12,8 @@ use Rattle.nm_lanes.specs.Runs.{runs_of_range}
 use Rattle.nm_lanes.specs.Writes.{HasWritten, HasWrittenSome}
 use Rattle.nm_leg.specs.Leg.{LegType}
 use Rattle.nm_mirror.specs.Counting.{Follows}
+use Rattle.nm_mirror.specs.LaneState.{LaneState}
 use Rattle.nm_mirror.specs.declared.pass.Pass.{Pass}
-use Rattle.nm_part.specs.PartState.{PartState}
 use Rattle.nm_reports.specs.declared.mirror_call.MirrorCall.{MirrorCall}
 use Rattle.nm_reports.specs.declared.mirror_call.MirrorCall.TheVariants as mirror
 use Rattle.nm_session.specs.declared.target_fault.TargetFault.TheVariants.{Memory, Io, Full}
@@ -46,12 +46,12 @@ abbrev pub IsInside : Geometry → MirrorCall → (room : ℕ) → Type 0
 IsInside shape call room = end_of call room ≤ 512 * shape.blocks
 
 -- there is a part for each stripe of the shape
-abbrev pub IsEven : Geometry → List PartState → Type 0
+abbrev pub IsEven : {L : Type 0} → Geometry → List (LaneState L) → Type 0
 IsEven shape parts = length parts ≡ shape.stripes
 
 -- the parts of a pass before a call, and after it
-abbrev pub Parts : Type 0
-Parts = List PartState × List PartState
+abbrev pub Parts : Type 0 → Type 0
+Parts L = List (LaneState L) × List (LaneState L)
 
 -- so many bytes from the offset on
 abbrev pub range_at : (offset length : ℕ) → ByteRange
@@ -59,7 +59,8 @@ range_at offset length = record { offset = offset; length = length }
 
 -- a read of the runs of this range: all of them and these bytes found; or some, and then a step
 -- ended it
-abbrev pub Read : {L : Type 0} → LegType L → Geometry → ByteRange → List ℕ → Answer → Parts → Type 0
+abbrev pub Read : {L : Type 0} → LegType L → Geometry → ByteRange → List ℕ → Answer → Parts L
+    → Type 0
 Read type shape range bytes (Ok done) parts =
     HasRead (Follows type) shape (runs_of_range shape range) parts bytes
 Read type shape range bytes (Err Memory) parts = ⊥
@@ -70,7 +71,7 @@ Read type shape range bytes (Err Io) parts =
 -- a write of these bytes to the runs of this range: all of it; nothing, out of memory; or some, and
 -- then a step ended it
 abbrev pub Write : {L : Type 0}
-    → LegType L → Geometry → ByteRange → List ℕ → Answer → Parts → Type 0
+    → LegType L → Geometry → ByteRange → List ℕ → Answer → Parts L → Type 0
 Write type shape range bytes (Ok done) parts =
     HasWritten (Follows type) shape (cuts_for (runs_of_range shape range) bytes) parts
 Write type shape range bytes (Err Memory) parts = parts.1 ≡ parts.0
@@ -79,7 +80,7 @@ Write type shape range bytes (Err fault) parts =
     × HasWrittenSome (Follows type) shape (cuts_for (runs_of_range shape range) bytes) parts cause
 
 -- zeroes written to the runs of this range, which takes no memory
-abbrev pub Zero : {L : Type 0} → LegType L → Geometry → ByteRange → Answer → Parts → Type 0
+abbrev pub Zero : {L : Type 0} → LegType L → Geometry → ByteRange → Answer → Parts L → Type 0
 Zero type shape range (Ok done) parts =
     HasWritten (Follows type) shape (zeroes_for (runs_of_range shape range)) parts
 Zero type shape range (Err Memory) parts = ⊥
@@ -89,14 +90,14 @@ Zero type shape range (Err fault) parts =
 
 -- a sync, which takes no memory: each leg was synced in each of these stripes; or in some of them,
 -- and then a step ended it
-abbrev pub Sync : {L : Type 0} → LegType L → Geometry → (ℕ → Type 0) → Answer → Parts → Type 0
+abbrev pub Sync : {L : Type 0} → LegType L → Geometry → (ℕ → Type 0) → Answer → Parts L → Type 0
 Sync type shape Synced (Ok done) parts = HasFlushed (Follows type) shape.legs Synced parts
 Sync type shape Synced (Err Memory) parts = ⊥
 Sync type shape Synced (Err fault) parts =
     (cause : CallError) × HasFlushedSome (Follows type) shape.legs Synced parts cause
 
 -- what a call does, answered so, through a pass that has a part for each stripe
-abbrev pub Acts : {L : Type 0} → LegType L → Geometry → TargetCall → Parts → Type 0
+abbrev pub Acts : {L : Type 0} → LegType L → Geometry → TargetCall → Parts L → Type 0
 Acts type shape (Reads offset bytes answer) =
     Read type shape (range_at offset (length bytes)) bytes answer
 Acts type shape (Writes offset bytes answer) =
@@ -108,32 +109,33 @@ Acts type shape (Syncs offset count answer) =
     Sync type shape (Touches shape (range_at offset count)) answer
 
 -- calls one after the other
-abbrev pub LeadMirror : {L : Type 0} → LegType L → Geometry → List PartState → List TargetCall
-    → List PartState → Type 0
+abbrev pub LeadMirror : {L : Type 0} → LegType L → Geometry → List (LaneState L) → List TargetCall
+    → List (LaneState L) → Type 0
 LeadMirror type shape old [] new = new ≡ old
-LeadMirror type shape old (call ∷ calls) new =
-    (mid : List PartState) × Acts type shape call (old, mid) × LeadMirror type shape mid calls new
+LeadMirror {L} type shape old (call ∷ calls) new =
+    (mid : List (LaneState L)) × Acts type shape call (old, mid)
+    × LeadMirror type shape mid calls new
 
 -- how a mirror's blocks lie in its stripes, and the parts of a pass through it
-pub record PassState : Type 0 where
+pub record PassState (L : Type 0) : Type 0 where
   pub shape : Geometry
-  pub parts : List PartState
+  pub parts : List (LaneState L)
 
 -- this pass through a mirror of this shape
-abbrev pub state_of : {L J : Type 0} → Geometry → Pass L J → PassState
+abbrev pub state_of : {L J : Type 0} → Geometry → Pass L J → PassState L
 state_of shape pass = record { shape = shape; parts = pass.parts.items }
 
 -- the calls lead from one to the other, and the shape stays
-pub record Leads {L : Type 0} (type : LegType L) (old : PassState) (calls : List TargetCall)
-    (new : PassState) : Type 0 where
+pub record Leads {L : Type 0} (type : LegType L) (old : PassState L) (calls : List TargetCall)
+    (new : PassState L) : Type 0 where
   pub shape : new.shape ≡ old.shape
   pub calls_lead : LeadMirror type old.shape old.parts calls new.parts
 
 -- no call leads from one to itself
-pub leads-nowhere : {L : Type 0} (type : LegType L) (old : PassState) → Leads type old [] old
+pub leads-nowhere : {L : Type 0} (type : LegType L) (old : PassState L) → Leads type old [] old
 leads-nowhere type old = record { shape = refl; calls_lead = refl }
 
-lead-on : {L : Type 0} (type : LegType L) (shape : Geometry) (old mid new : List PartState)
+lead-on : {L : Type 0} (type : LegType L) (shape : Geometry) (old mid new : List (LaneState L))
     (first second : List TargetCall) → LeadMirror type shape old first mid
     → LeadMirror type shape mid second new → LeadMirror type shape old (first ++ second) new
 lead-on type shape old mid new [] second before after = rw (← before) after
@@ -141,7 +143,7 @@ lead-on type shape old mid new (call ∷ first) second before after =
     (before.0, before.1, lead-on type shape before.0 mid new first second before.2 after)
 
 -- calls that follow one another are one list
-pub leads-on : {L : Type 0} (type : LegType L) (old mid new : PassState)
+pub leads-on : {L : Type 0} (type : LegType L) (old mid new : PassState L)
     (first second : List TargetCall)
     → Leads type old first mid → Leads type mid second new → Leads type old (first ++ second) new
 leads-on type old mid new first second before after = record {

@@ -8,7 +8,7 @@ use nm_control::{Copier, CopyOrders, Healing, LegWatch, MissingLegs};
 use nm_leg_files::{
     FileMirror, LateSlots, LateSuperblock, Leg, LegFiles, LegPlace, LegSyncs, SuperblockWriter,
 };
-use nm_mirror::{MOST_PASSES, Naming, Pass};
+use nm_mirror::{EmptyLog, MOST_PASSES, Naming, Pass};
 use nm_reports::{LogLines, Metrics, MirrorDoubts, StartFault};
 use nm_starts::{OpenedMirror, Superblocks, open_asked_for};
 use std::alloc::{AllocError, Global};
@@ -223,12 +223,13 @@ pub fn open<R, J: Naming>(
     mut files: LegFiles,
     control: &Listener,
     lines: &LogLines,
+    log: EmptyLog<Leg, J>,
 ) -> Result<Opened<J>, StartFault>
 where
     R: Threads + Wait + Sync + Clock + RandomSource + Files<File = File>,
 {
     let meanwhile = ControlMeanwhile { control };
-    let opened = open_asked_for(rt, alloc, settings, &mut files, &meanwhile, lines)?;
+    let opened = open_asked_for(rt, alloc, settings, &mut files, &meanwhile, lines, log)?;
     files.tell_missing(rt, alloc, lines);
     equipped(rt, alloc, settings, &files, opened)
 }

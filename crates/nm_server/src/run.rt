@@ -1,5 +1,6 @@
 //! A run of the server: what the settings ask for is found, opened, served until a `quit`, and
 //! ended.
+ghost use Rattle.std.specs.Prelude.{◌≡◌};
 
 use crate::equipment::{Equipment, Opened, metrics_of, open};
 use crate::serving::{Copying, Server};
@@ -9,7 +10,7 @@ use nm_connections::{Listener, ServingState, SessionRules, Shared, listen, liste
 use nm_control::LegRenewer;
 use nm_geometry::{MOST_LEGS, Shape};
 use nm_leg_files::{FileMirror, Leg, LegFiles, LegMaker, LegPlace, LegRules, OpensLegs};
-use nm_mirror::{Naming, Pass};
+use nm_mirror::{EmptyLog, Naming, OpenedLog, Pass, open_log};
 use nm_reports::{LogLines, Metrics, Port, StartFault};
 use nm_starts::{
     check_added, check_files, check_from, check_moved, check_shrink, reply_bytes_of, settle_place,
@@ -259,15 +260,22 @@ fn ready_state<R: Threads + Wait + Sync + Copy + Send + Clock + 'static>(
     state_of(rt, alloc, settings, limits, metrics)
 }
 
+// What is asked of the server, and what the system lets it do.
+#[derive(Drop)]
+struct Asked<'s, 'a> {
+    settings: &'s Settings<'a>,
+    limits: &'s Limits,
+}
+
 // Opens what the settings ask for, and serves it until a `quit`.
 fn open_and_serve<J: Naming + Send + Sync, R, P: OpensLegs + Sync, O: Write>(
     rt: &R,
     alloc: Global,
     opener: &P,
-    settings: &Settings<'_>,
-    limits: &Limits,
+    asked: &Asked<'_, '_>,
     out: &mut O,
     lines: &LogLines,
+    log: OpenedLog<Leg>,
 ) -> Result<(), StartFault>
 where
     R: Threads
@@ -280,14 +288,24 @@ where
         + Files<File = File>
         + Net<Listener = TcpListener, Stream = TcpStream>
         + 'static,
+    requires { log.table.shared.table_id ≡ J.table }
 {
+    let (settings, limits) = (asked.settings, asked.limits);
     let (named, files) = find_export(rt, alloc, settings, limits)?;
     let listening = &settings.listening;
     let clients = listen(rt, alloc, Port::Clients, listening)?;
     let control = listen_beside(rt, alloc, listening, &clients)?;
     // Whatever may be refused is, before a superblock is made.
     let state = ready_state(rt, alloc, settings, limits, &files)?;
-    let opened: Opened<J> = open(rt, alloc, settings, files, &control.listener, lines)?;
+    let opened: Opened<J> = open(
+        rt,
+        alloc,
+        settings,
+        files,
+        &control.listener,
+        lines,
+        EmptyLog::of(log),
+    )?;
     warn_if_open(rt, alloc, &control.listener, listening.control, lines);
     clients.tell(out, "listening on");
     control.tell(out, "control on");
@@ -320,5 +338,10 @@ where
     let _streams = take_standard_streams(rt, alloc).ok_or(StartFault::NoStandardStreams)?;
     settle_place(rt, settings);
     sort_legs(rt, alloc, settings, lines)?;
-    open_and_serve::<Brand, R, P, O>(rt, alloc, opener, &*settings, limits, out, lines)
+    let Ok(log) = open_log(alloc) else {
+        return Err(StartFault::Memory);
+    };
+    let settings = &*settings;
+    let asked = Asked { settings, limits };
+    open_and_serve::<Brand, R, P, O>(rt, alloc, opener, &asked, out, lines, log)
 }

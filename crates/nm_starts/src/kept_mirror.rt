@@ -25,7 +25,7 @@ use nm_gate::GatedStripe;
 use nm_geometry::Shape;
 use nm_lanes::NoGate;
 use nm_leg_files::{BytesRead, FileMirror, Leg, LegFiles};
-use nm_mirror::{InitialSync, Mirror, Naming};
+use nm_mirror::{EmptyLog, InitialSync, Mirror, Naming};
 use nm_reports::{Comparison, LogLines, StartFault, tell_progress};
 use nm_stripe::Stripe;
 use nm_superblock::Superblock;
@@ -53,11 +53,12 @@ fn mirror_of<J: Naming>(
     alloc: Global,
     shape: Shape,
     stripes: Vec<GatedStripe<Leg>>,
+    log: EmptyLog<Leg, J>,
 ) -> Result<FileMirror<J>, StartFault>
     requires { AreStripesOf shape (map (λ own. own.stripe) stripes.items) }
     ensures { IfOk result (λ mirror. mirror.shape ≡ shape) }
 {
-    match Mirror::new(alloc, shape, stripes, NoGate) {
+    match Mirror::new(alloc, shape, stripes, NoGate, log) {
         Ok(mirror) => Ok(mirror),
         Err(_) => Err(StartFault::Memory),
     }
@@ -72,11 +73,12 @@ fn open_changed<R: Files<File = File>, J: Naming>(
     files: &LegFiles,
     read: &BytesRead,
     kept: KeptImage,
+    log: EmptyLog<Leg, J>,
 ) -> Result<OpenedMirror<J>, StartFault> {
     let shape = shape_by(mirror, files, &kept.image)?;
     let (gated, superblocks) = gate_compared(rt, alloc, mirror.policy, files, &shape, read, kept)?;
     Ok(OpenedMirror {
-        mirror: mirror_of(alloc, shape, gated)?,
+        mirror: mirror_of(alloc, shape, gated, log)?,
         superblocks: Some(superblocks),
     })
 }
@@ -86,12 +88,13 @@ fn open_unkept<J: Naming>(
     alloc: Global,
     shape: Shape,
     stripes: Vec<Stripe<Leg>>,
+    log: EmptyLog<Leg, J>,
 ) -> Result<OpenedMirror<J>, StartFault>
     requires { AreStripesOf shape stripes.items }
 {
     let open = open_gates(alloc, &shape, stripes)?;
     Ok(OpenedMirror {
-        mirror: mirror_of(alloc, shape, open)?,
+        mirror: mirror_of(alloc, shape, open, log)?,
         superblocks: None,
     })
 }
@@ -103,12 +106,13 @@ fn open_first<R: Files<File = File>, J: Naming>(
     shape: Shape,
     stripes: Vec<Stripe<Leg>>,
     kept: KeptImage,
+    log: EmptyLog<Leg, J>,
 ) -> Result<OpenedMirror<J>, StartFault>
     requires { AreStripesOf shape stripes.items }
 {
     let (gated, superblocks) = kept.gate(rt, alloc, &shape, stripes)?;
     Ok(OpenedMirror {
-        mirror: mirror_of(alloc, shape, gated)?,
+        mirror: mirror_of(alloc, shape, gated, log)?,
         superblocks: Some(superblocks),
     })
 }
@@ -122,10 +126,11 @@ fn open_mirror<R: Files<File = File>, J: Naming>(
     files: &LegFiles,
     read: &BytesRead,
     kept: Option<KeptImage>,
+    log: EmptyLog<Leg, J>,
 ) -> Result<OpenedMirror<J>, StartFault> {
     let kept = match kept {
         Some(kept) if kept.is_compared => {
-            return open_changed(rt, alloc, &settings.mirror, files, read, kept);
+            return open_changed(rt, alloc, &settings.mirror, files, read, kept, log);
         }
         kept => kept,
     };
@@ -134,8 +139,8 @@ fn open_mirror<R: Files<File = File>, J: Naming>(
     };
     let stripes = open_untold(alloc, settings, files, &shape, read)?;
     match kept {
-        None => open_unkept(alloc, shape, stripes),
-        Some(kept) => open_first(rt, alloc, shape, stripes, kept),
+        None => open_unkept(alloc, shape, stripes, log),
+        Some(kept) => open_first(rt, alloc, shape, stripes, kept, log),
     }
 }
 
@@ -147,6 +152,15 @@ fn none_read(alloc: Global) -> Result<BytesRead, StartFault> {
     }
 }
 
+// Who tells of a mirror while its legs are compared.
+#[derive(Drop)]
+struct Watch<'a, M> {
+    // Who answers.
+    meanwhile: &'a M,
+    // The log lines.
+    lines: &'a LogLines,
+}
+
 // Opens the mirror, while one thread tells how far the comparison of its legs is, and another one
 // answers. Where no thread can be had nothing is told.
 fn open_watched<R, M: Meanwhile + Sync, J: Naming>(
@@ -154,16 +168,16 @@ fn open_watched<R, M: Meanwhile + Sync, J: Naming>(
     alloc: Global,
     settings: &Settings<'_>,
     files: &LegFiles,
-    meanwhile: &M,
-    lines: &LogLines,
+    watch: &Watch<'_, M>,
     kept: Option<KeptImage>,
+    log: EmptyLog<Leg, J>,
 ) -> Result<OpenedMirror<J>, StartFault>
 where
     R: Threads + Wait + Sync + Clock + Files<File = File>,
 {
     let read = none_read(alloc)?;
     if start_for(settings.opening.start) == InitialSync::Full || settings.mirror.legs.len() < 2 {
-        return open_mirror(rt, alloc, settings, files, &read, kept);
+        return open_mirror(rt, alloc, settings, files, &read, kept, log);
     }
     let Ok((comparing, has_ended)) = bounded(alloc, 1) else {
         return Err(StartFault::Memory);
@@ -174,10 +188,11 @@ where
         read: &read,
     };
     let (ended, comparison) = (&has_ended, &own_comparison);
+    let (meanwhile, lines) = (watch.meanwhile, watch.lines);
     thread::scope(thread::scope_env(), rt, |scope| {
         let _ = scope.spawn(move || tell_progress(rt, alloc, ended, comparison, lines));
         let _ = scope.spawn(move || meanwhile.answer(rt, alloc, ended, comparison));
-        let mirror = open_mirror(rt, alloc, settings, files, &read, kept);
+        let mirror = open_mirror(rt, alloc, settings, files, &read, kept, log);
         drop(comparing);
         mirror
     })
@@ -190,12 +205,13 @@ fn open_image<R: Files<File = File>, J: Naming>(
     mirror: &MirrorSettings<'_>,
     files: &LegFiles,
     kept: KeptImage,
+    log: EmptyLog<Leg, J>,
 ) -> Result<OpenedMirror<J>, StartFault> {
     let read = none_read(alloc)?;
     let shape = shape_by(mirror, files, &kept.image)?;
     let (gated, superblocks) = gate_by_image(rt, alloc, mirror.policy, files, &shape, &read, kept)?;
     Ok(OpenedMirror {
-        mirror: mirror_of(alloc, shape, gated)?,
+        mirror: mirror_of(alloc, shape, gated, log)?,
         superblocks: Some(superblocks),
     })
 }
@@ -321,6 +337,7 @@ fn open_kept<R, M: Meanwhile + Sync, J: Naming>(
     files: &mut LegFiles,
     meanwhile: &M,
     lines: &LogLines,
+    log: EmptyLog<Leg, J>,
 ) -> Result<OpenedMirror<J>, StartFault>
 where
     R: Threads + Wait + Sync + Clock + RandomSource + Files<File = File>,
@@ -338,9 +355,10 @@ where
         is_compared: by.is_compared,
     };
     let opened = if by.is_first || by.is_compared {
-        open_watched(rt, alloc, settings, files, meanwhile, lines, Some(kept))?
+        let watch = Watch { meanwhile, lines };
+        open_watched(rt, alloc, settings, files, &watch, Some(kept), log)?
     } else {
-        open_image(rt, alloc, &settings.mirror, files, kept)?
+        open_image(rt, alloc, &settings.mirror, files, kept, log)?
     };
     // The new place has them all, and nobody is served yet.
     if let Some(old) = old {
@@ -358,13 +376,15 @@ pub fn open_asked_for<R, M: Meanwhile + Sync, J: Naming>(
     files: &mut LegFiles,
     meanwhile: &M,
     lines: &LogLines,
+    log: EmptyLog<Leg, J>,
 ) -> Result<OpenedMirror<J>, StartFault>
 where
     R: Threads + Wait + Sync + Clock + RandomSource + Files<File = File>,
 {
     check_place(rt, alloc, settings, files)?;
     if settings.opening.superblock == SuperblockPlace::Nowhere {
-        return open_watched(rt, alloc, settings, files, meanwhile, lines, None);
+        let watch = Watch { meanwhile, lines };
+        return open_watched(rt, alloc, settings, files, &watch, None, log);
     }
-    open_kept(rt, alloc, settings, files, meanwhile, lines)
+    open_kept(rt, alloc, settings, files, meanwhile, lines, log)
 }

@@ -5,11 +5,11 @@
 //! but what a read does to a leg: a leg that differs, or that cannot be read, stays in sync.
 #![tactic(auto)]
 
-pub use agreement::{Agreed, look_without};
+pub use agreement::{Agreed, run_without};
 pub use cursor::{Cursor, MOST_TRIES};
 pub use findings::{Findings, MOST_TOLD, RegionFindings, RegionPlace};
-pub use looks::{Begun, Half, MOST_BYTES, Seen, look_first, look_second};
-pub use pairs::pair_of;
+pub use looks::{Begun, Half, MOST_BYTES, Seen, is_same, look_first, look_second};
+pub use pairs::{is_here, pair_of};
 pub use runs::run_length;
 pub use verification::Verification;
 

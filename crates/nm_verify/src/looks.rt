@@ -68,7 +68,7 @@ fn is_untouched<L: LegPart>(stripe: &Stripe<L>, at: Cursor, half: Half) -> bool
 }
 
 /// Whether both have the same first bytes, so many.
-pub(crate) fn is_same(held: &[u8], found: &[u8], long: usize) -> bool
+pub fn is_same(held: &[u8], found: &[u8], long: usize) -> bool
     requires held { long ≤ length held.now }
     requires found { long ≤ length found.now }
     ensures { IsTrue result ↔ (take long found.now ≡ take long held.now) }

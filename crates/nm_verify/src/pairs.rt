@@ -6,7 +6,7 @@ use nm_leg::LegPart;
 use nm_stripe::{LegState, Stripe};
 
 /// Whether the stripe has the leg, in sync.
-pub(crate) fn is_here<L: LegPart>(stripe: &Stripe<L>, leg: u8) -> bool
+pub fn is_here<L: LegPart>(stripe: &Stripe<L>, leg: u8) -> bool
     ensures { IsTrue result ↔ IsHere leg stripe.now }
 {
     (leg as usize) < stripe.legs() && stripe.state(leg) == LegState::InSync

@@ -1,13 +1,14 @@
 -- Each turn is one push more, until the write owes no leg, or there were eight.
-use Rattle.std.proofs.Common.{◌≡◌, inl, inr, None, Some, sym, ◌∙◌, arith, refl}
+use Rattle.std.proofs.Common.{◌≡◌, inl, inr, None, Some, sym, ◌∙◌, arith}
 use Rattle.std.proofs.lemmas.Option.{same_Some}
 use Rattle.nm_leg.specs.Leg.{leg_type}
 use Rattle.nm_mirror.proofs.ClaimingLemmas.{none-pushed, one-pushed, push-step, pushed-all}
 use Rattle.nm_mirror.proofs.HeldLemmas.{step-on, stripe-stays}
+use Rattle.nm_mirror.proofs.OneWay.{held_same}
 use Rattle.nm_mirror.proofs.claiming.push_all.Goals as goal
 
 pub pushes-init : goal.pushes-init
-pushes-init g c = (none-pushed (leg_type g.L.LegPart.model g.L.LegPart.honest) c.args.ticket c.args.held.now.gated.stripe, omega arith, refl)
+pushes-init g c = (none-pushed (leg_type g.L.LegPart.model g.L.LegPart.honest) c.args.ticket c.args.held.now.gated.stripe, omega arith, held_same g.row.L g.L.LegPart c.args.held.now)
 
 pub returns-in_default-clause-pushes : goal.returns-in_default-clause-pushes
 returns-in_default-clause-pushes g c =

@@ -7,7 +7,7 @@ use Rattle.nm_mirror.proofs.held.Held.claim_left.Given as goal
 
 abbrev pub invariant-writes : goal.invariant-writes
 invariant-writes g l =
-    ((end : Held _ _) → ClaimsEach (leg_type g.L.LegPart.model g.L.LegPart.honest) (reverse l.rest) l.self end
+    ((end : Held _ _ _) → ClaimsEach (leg_type g.L.LegPart.model g.L.LegPart.honest) (reverse l.rest) l.self end
     → ClaimsEach (leg_type g.L.LegPart.model g.L.LegPart.honest) (reverse l.fn.self.unclaimed) (with_none_left l.fn.self) end)
     × (l.self.gated.durable ≡ l.fn.self.gated.durable) × (l.self.openings ≡ l.fn.self.openings)
 

@@ -16,8 +16,8 @@ invariant_of-mirror g c =
     let long : c.args.self.locks.len ≡ length c.totals_of.new.locks = omega (arith, c.totals_of.ensures.locks, c.as_mut_slice.ensures.len) in
     record {
       one_each = c.args.self.one_each;
-      in_order = order-kept (λ (lock : Lock _ _). lock.number) c.args.self.locks.len c.totals_of.new.locks c.args.self.locks.items _ long
-          (c.totals_of.ensures.numbers ∙ ap (map (λ (lock : Lock _ _). lock.number)) c.as_mut_slice.ensures.value) c.args.self.in_order;
+      in_order = order-kept (λ (lock : Lock _ _ _). lock.number) c.args.self.locks.len c.totals_of.new.locks c.args.self.locks.items _ long
+          (c.totals_of.ensures.numbers ∙ ap (map (λ (lock : Lock _ _ _). lock.number)) c.as_mut_slice.ensures.value) c.args.self.in_order;
     }
 
 pub invariant_of-mirror-in-Err : goal.invariant_of-mirror-in-Err
@@ -25,6 +25,6 @@ invariant_of-mirror-in-Err g c =
     let long : c.args.self.locks.len ≡ length c.totals_of.new.locks = omega (arith, c.totals_of.ensures.locks, c.as_mut_slice.ensures.len) in
     record {
       one_each = c.args.self.one_each;
-      in_order = order-kept (λ (lock : Lock _ _). lock.number) c.args.self.locks.len c.totals_of.new.locks c.args.self.locks.items _ long
-          (c.totals_of.ensures.numbers ∙ ap (map (λ (lock : Lock _ _). lock.number)) c.as_mut_slice.ensures.value) c.args.self.in_order;
+      in_order = order-kept (λ (lock : Lock _ _ _). lock.number) c.args.self.locks.len c.totals_of.new.locks c.args.self.locks.items _ long
+          (c.totals_of.ensures.numbers ∙ ap (map (λ (lock : Lock _ _ _). lock.number)) c.as_mut_slice.ensures.value) c.args.self.in_order;
     }

@@ -8,3 +8,6 @@ pub invariant_of-result-clause-in_order : goal.invariant_of-result-clause-in_ord
 invariant_of-result-clause-in_order g c =
     subst AreInOrder (sym c.in-Ok-lock_each.ensures.numbers)
     (gated-in-order c.args.shape (λ gated. gated.stripe) c.args.stripes.items c.requires.each)
+
+pub lock_each-requires-clause-in_order : goal.lock_each-requires-clause-in_order
+lock_each-requires-clause-in_order g c = gated-in-order c.args.shape (λ gated. gated.stripe) c.args.stripes.items c.requires.each

@@ -9,7 +9,7 @@ use Rattle.nm_mirror.proofs.mirror.Mirror.reopen.Goals as goal
 
 pub reopen-requires-clause-saved : goal.reopen-requires-clause-saved
 reopen-requires-clause-saved g c =
-    subst (λ (held : Held _ _). LetsPass held.gated.durable held.gated.stripe Answer)
+    subst (λ (held : Held _ _ _). LetsPass held.gated.durable held.gated.stripe Answer)
     (sym c.deref_mut.ensures.value) c.in-Some.ensures.passes
 
 pub returns : goal.returns
@@ -17,7 +17,7 @@ returns g c =
     let opens : Reopens c.place_of-place.result c.args.legs.items c.args.policy c.deref_mut.result.now c.reopen.new.self = search rules in
     record {
       held = (c.deref_mut.result.now, c.reopen.new.self);
-      number_is = ap (λ (held : Held _ _). held.gated.stripe.place.stripe) c.deref_mut.ensures.value
+      number_is = ap (λ (held : Held _ _ _). held.gated.stripe.place.stripe) c.deref_mut.ensures.value
           ∙ c.in-Some.ensures.number ∙ c.lock_of-lock.ensures;
       reopens = subst (λ (place : At). Reopens place c.args.legs.items c.args.policy c.deref_mut.result.now c.reopen.new.self)
           c.place_of-place.ensures.place opens;

@@ -12,7 +12,7 @@ returns g c = λ told. record {
   durable = (mutex_guard_value c.in_ok-held.held).gated.durable;
   stripe = (mutex_guard_value c.in_ok-held.held).gated.stripe;
   number_is = c.in_ok-held.ensures.number ∙ c.lock_of.ensures;
-  out = subst (λ (held : Held _ _). c.args.leg < length held.gated.stripe.legs → leg_state c.args.leg held.gated.stripe ≡ Out)
+  out = subst (λ (held : Held _ _ _). c.args.leg < length held.gated.stripe.legs → leg_state c.args.leg held.gated.stripe ≡ Out)
       c.deref.ensures (c.is_gone.ensures (same_Some c.is_gone.result true told));
   passes = c.in_ok-held.ensures.passes;
 }

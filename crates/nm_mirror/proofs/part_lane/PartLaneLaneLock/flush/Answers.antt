@@ -1,5 +1,7 @@
 -- What the lock lends is what its gate let pass.
-use Rattle.std.proofs.Common.{sym, subst}
+use Rattle.std.proofs.Common.{refl, sym, subst}
+use Rattle.nm_leg.specs.Leg.{leg_type}
+use Rattle.nm_mirror.proofs.NotedLemmas.{not-saved}
 use Rattle.nm_mirror.specs.Asks.{LetsPass}
 use Rattle.nm_mirror.specs.declared.ask.Ask.TheVariants.{Answer}
 use Rattle.nm_mirror.specs.declared.held.Held.{Held}
@@ -7,5 +9,8 @@ use Rattle.nm_mirror.proofs.part_lane.PartLaneLaneLock.flush.Goals as goal
 
 pub flush-requires : goal.flush-requires
 flush-requires g c =
-    subst (λ (held : Held _ _). LetsPass held.gated.durable held.gated.stripe Answer)
+    subst (λ (held : Held _ _ _). LetsPass held.gated.durable held.gated.stripe Answer)
     (sym c.deref_mut.ensures.value) c.in-Some.ensures.passes
+
+pub returns-in_default : goal.returns-in_default
+returns-in_default g c = record { follows = not-saved (leg_type g.L.LegPart.model g.L.LegPart.honest) c.args.self.now _ (tt, refl) }

@@ -1,0 +1,65 @@
+-- One transition more in what is noted of a stripe.
+use Rattle.std.proofs.Common.{◌≡◌, ℕ, List, [], ◌∷◌, ◌++◌, Option, Some, append_assoc, refl, sym, ap, subst, ◌∙◌}
+use Rattle.nm_book.specs.declared.rule.Entry.{Entry}
+use Rattle.nm_book.specs.Log.{KeeperView, NotesOn, PassView, entry, whats}
+use Rattle.nm_book.proofs.Lists.{calls_own, whats_longer}
+use Rattle.nm_gate.specs.declared.gated_stripe.GatedStripe.{GatedStripe}
+use Rattle.nm_history.specs.declared.transition.Move.{Move}
+use Rattle.nm_history.specs.declared.transition.Move.TheVariants.{Opens}
+use Rattle.nm_history.specs.declared.transition.Transition.{Transition}
+use Rattle.nm_history.specs.History.{LeadsTo, LegalMoves, last_of}
+use Rattle.nm_history.specs.Lost.{none_lost}
+use Rattle.nm_history.specs.Moves.{MoveOf}
+use Rattle.nm_history.proofs.Lists.{histories-go-on}
+use Rattle.nm_leg.specs.Leg.{LegType}
+use Rattle.nm_mirror.specs.Trail.{HasHistory, NotesAll, entries, led_to}
+use Rattle.nm_rules.specs.Invariant.{Keeps}
+
+-- an entry of a pass that was noted is all that it has noted
+pub notes-one : {E : Type 0} (legal : ℕ → List E → Type 0) (keeper : KeeperView E) (shard : ℕ) (what : E) (old new : PassView E) → keeper.shard ≡ shard → NotesOn legal keeper what old new → NotesAll legal shard (what ∷ []) old new
+notes-one {E} legal keeper shard what old new own on =
+    let one : Entry E = entry old.who keeper.shard what in
+    let same : one ∷ [] ≡ entries old.who shard (what ∷ []) = ap (λ (s : ℕ). let e : Entry E = entry old.who s what in e ∷ []) own in
+    record {
+      more = on.between ++ one ∷ [];
+      who = on.who;
+      seen = on.seen ∙ append_assoc old.seen on.between (one ∷ []);
+      own = calls_own on.between one old.who refl ∙ ap (λ (l : List (Entry E)). l ++ one ∷ []) on.own ∙ same;
+      mine = on.mine ∙ ap (λ (l : List (Entry E)). old.mine ++ l) same;
+      is_legal = λ before. on.is_legal;
+    }
+
+module _ {L : Type 0} (type : LegType L) where
+  abbrev pub told : Move L → GatedStripe L → Transition L
+  told made to = record { made = made; to = to }
+
+  -- what a keeper knows that is there leads where the trail does
+  pub keeper-leads : (o : Option (KeeperView (Transition L))) (keeper : KeeperView (Transition L)) (from : GatedStripe L) → o ≡ Some keeper → HasHistory type o → led_to o ≡ Some from → LeadsTo type keeper.shard (whats keeper.all) from
+  keeper-leads o keeper from is has leads = record {
+    legal = subst (λ (p : Option (KeeperView (Transition L))). HasHistory type p) is has;
+    last = sym (ap (λ (p : Option (KeeperView (Transition L))). led_to p) is) ∙ leads;
+  }
+
+  -- one more
+  pub leads-on : (keeper : KeeperView (Transition L)) (from to : GatedStripe L) (made : Move L) → LeadsTo type keeper.shard (whats keeper.all) from → MoveOf type none_lost made from to → LeadsTo type keeper.shard (whats keeper.all ++ told made to ∷ []) to
+  leads-on keeper from to made leads is = (histories-go-on type).goes_on keeper.shard (whats keeper.all) from (told made to) leads is
+
+  pub opens-legal : (keeper : KeeperView (Transition L)) (to : GatedStripe L) → keeper.all ≡ [] → keeper.shard ≡ to.stripe.place.stripe → Keeps type to.stripe → LegalMoves type keeper.shard (whats keeper.all ++ told Opens to ∷ [])
+  opens-legal keeper to none own keeps = subst (λ (all : List (Entry (Transition L))). LegalMoves type keeper.shard (whats all ++ told Opens to ∷ [])) (sym none) (refl, keeps, sym own, tt)
+
+  module _ (keeper noted : KeeperView (Transition L)) (who : ℕ) (t : Transition L) (shard : noted.shard ≡ keeper.shard) (all : noted.all ≡ keeper.all ++ entry who keeper.shard t ∷ []) where
+    whats-are : whats noted.all ≡ whats keeper.all ++ t ∷ []
+    whats-are = ap (λ (l : List (Entry (Transition L))). whats l) all ∙ whats_longer keeper.all (entry who keeper.shard t)
+
+    -- the keeper that comes back knows it
+    pub noted-has : LegalMoves type keeper.shard (whats keeper.all ++ t ∷ []) → HasHistory type (Some noted)
+    noted-has legal =
+        subst (λ (s : ℕ). LegalMoves type s (whats noted.all)) (sym shard)
+        (subst (λ (l : List (Transition L)). LegalMoves type keeper.shard l) (sym whats-are) legal)
+
+    pub noted-led : (to : GatedStripe L) → last_of (whats keeper.all ++ t ∷ []) ≡ Some to → led_to (Some noted) ≡ Some to
+    noted-led to last = ap (λ (l : List (Transition L)). last_of l) whats-are ∙ last
+
+  -- the number of the stripe that it leads to is the keeper's
+  pub number-is : (keeper : KeeperView (Transition L)) (list : List (Transition L)) (to : GatedStripe L) → LeadsTo type keeper.shard list to → keeper.shard ≡ to.stripe.place.stripe
+  number-is keeper list to leads = sym ((histories-go-on type).number_is keeper.shard list to leads)
