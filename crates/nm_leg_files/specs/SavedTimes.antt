@@ -1,5 +1,5 @@
 -- The times of legs' last changes that a save records.
-use Rattle.std.specs.Prelude.{◌≡◌, ◌<◌, ℕ, Bool, false, List, nat_eq, if◌then◌else◌, ◌&&◌}
+use Rattle.std.specs.Prelude.{◌≡◌, ◌<◌, ℕ, Bool, List, nat_eq, if◌then◌else◌, ◌&&◌}
 use Rattle.std.specs.Prelude.{slice_index}
 use Rattle.nm_geometry.specs.LegSets.{has}
 use Rattle.nm_superblock.specs.declared.leg_identities.LegIdentities.{LegIdentities}

@@ -1,5 +1,5 @@
 -- A change that failed may be told as one for which there is no space left: it says as much of the mirror.
-use Rattle.std.proofs.Common.{◌≡◌, ℕ, Bool, true, false, ◌&&◌, List, Ok, Err}
+use Rattle.std.proofs.Common.{ℕ, Bool, true, false, ◌&&◌, List, Ok, Err}
 use Rattle.nm_geometry.specs.Geometry.{Geometry}
 use Rattle.nm_leg.specs.Leg.{LegType}
 use Rattle.nm_reports.specs.MirrorCall.{changes}

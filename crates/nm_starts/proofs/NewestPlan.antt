@@ -8,7 +8,7 @@ use Rattle.nm_superblock.specs.Spans.{mark_of}
 use Rattle.nm_assemble.specs.declared.assembly.Assembly.{Assembly}
 use Rattle.nm_assemble.specs.declared.image_legs.LegStart.{LegStart}
 use Rattle.nm_assemble.specs.declared.image_legs.LegStart.TheVariants as start
-use Rattle.nm_assemble.specs.Image.{IsImage, OpensOn}
+use Rattle.nm_assemble.specs.Image.{OpensOn}
 use Rattle.nm_assemble.specs.Legs.{IsLegStart, Lacks, Names}
 use Rattle.nm_rules.specs.declared.leg_opening.LegOpening.TheVariants.{Missing, Partial}
 use Rattle.nm_rules.specs.Reopening.{Marks}

@@ -1,5 +1,5 @@
 -- Stripes that an image opens on the legs' files, of which none is read.
-use Rattle.std.specs.Prelude.{◌≡◌, ◌≤◌, ℕ, Bool, List, length, map, max, min}
+use Rattle.std.specs.Prelude.{◌≡◌, ◌≤◌, Bool, List, length, map, max, min}
 use Rattle.nm_choice.specs.declared.policy.Policy.{Policy}
 use Rattle.nm_geometry.specs.Geometry.{Geometry}
 use Rattle.nm_leg_files.specs.Files.{LegPlace, mirror_places}

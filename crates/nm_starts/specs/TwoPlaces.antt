@@ -1,6 +1,6 @@
 -- Which superblocks of a mirror's legs count that are moved from an old place to a new one: each
 -- place may have one of each leg.
-use Rattle.std.specs.Prelude.{◌≡◌, ◌⊎◌, ◌<◌, ◌≤◌, ◌||◌, ℕ, Bool, List, Option, None, Some}
+use Rattle.std.specs.Prelude.{◌≡◌, ◌⊎◌, ◌<◌, ◌≤◌, ◌||◌, ℕ, List, Option, None, Some}
 use Rattle.std.specs.Prelude.{if◌then◌else◌, nat_lt, slice_index}
 use Rattle.nm_assemble.specs.Start.{IsEmpty, IsNewest, beside}
 use Rattle.nm_geometry.specs.LegSets.{has}

@@ -1,5 +1,5 @@
 -- The leg that was pushed is that of the next stripe.
-use Rattle.std.proofs.Common.{◌≡◌, ℕ, ◌+◌, true, not, is_ok, ap, sym, ◌∙◌, map, add-one}
+use Rattle.std.proofs.Common.{◌≡◌, ℕ, true, not, is_ok, ap, sym, ◌∙◌, add-one}
 use Rattle.nm_leg_files.specs.Files.{file_places, leg_place, place_on}
 use Rattle.nm_leg_files.proofs.Pushing.{has-one-more, one-row-more}
 use Rattle.nm_leg_files.proofs.file_legs.legs_on.Goals as goal

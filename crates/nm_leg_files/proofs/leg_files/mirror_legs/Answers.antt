@@ -1,5 +1,5 @@
 -- The list that was pushed is that of the next stripe.
-use Rattle.std.proofs.Common.{◌≡◌, ℕ, ◌+◌, true, not, is_ok, ap, sym, ◌∙◌, map, add-one}
+use Rattle.std.proofs.Common.{◌≡◌, ℕ, true, not, is_ok, ap, sym, ◌∙◌, map, add-one}
 use Rattle.nm_leg_files.specs.Files.{leg_place, places_of, stripe_places}
 use Rattle.nm_leg_files.proofs.Pushing.{has-one-more, one-row-more}
 use Rattle.nm_leg_files.proofs.leg_files.mirror_legs.Goals as goal

@@ -1,5 +1,5 @@
 -- The stripes are opened on the legs that were made for them, as the image has them start.
-use Rattle.std.proofs.Common.{◌≡◌, ℕ, Bool, List, map, ap, ◌∙◌, subst, arith}
+use Rattle.std.proofs.Common.{ℕ, Bool, List, map, ap, ◌∙◌, subst, arith}
 use Rattle.std.proofs.lemmas.Simd.{map-map}
 use Rattle.nm_geometry.specs.Geometry.{Geometry}
 use Rattle.nm_leg_files.specs.Files.{leg_place}

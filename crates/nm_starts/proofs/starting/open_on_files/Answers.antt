@@ -1,5 +1,5 @@
 -- The stripes are opened on the legs that were made for them.
-use Rattle.std.proofs.Common.{◌≡◌, Result, Ok, Err, map, ◌∙◌}
+use Rattle.std.proofs.Common.{Result, Ok, Err, map, ◌∙◌}
 use Rattle.std.specs.Prelude.{IfOk}
 use Rattle.std.proofs.lemmas.Simd.{map-map}
 use Rattle.nm_leg_files.specs.Files.{leg_place}
