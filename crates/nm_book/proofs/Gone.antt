@@ -6,7 +6,7 @@ use Rattle.atomic_table.proofs.Lists.{at_set}
 use Rattle.nm_book.specs.declared.rule.Entry.{Entry}
 use Rattle.nm_book.specs.declared.rule.Past.{Past}
 use Rattle.nm_book.specs.declared.rule.View.{View}
-use Rattle.nm_book.specs.Log.{calls_by, NotActing, AllGone, Apart, Retired}
+use Rattle.nm_book.specs.Log.{calls_by, NotActing, AllGone, Apart, Distinct, Retired}
 use Rattle.nm_book.proofs.Lists.{at_end, set_length, length_end}
 
 module _ {E : Type 0} where
@@ -60,11 +60,17 @@ module _ {E : Type 0} where
       (at_set views i j w u e)
 
   -- one that changes, and stays as it is in this
+  pub gone_kept : (views : List (View E)) (log : List (Entry E)) (i : ℕ) (v w : View E) → get_elem? views i ≡ some v
+      → (w.acts ≡ true → v.acts ≡ true) → w.gone ≡ v.gone
+      → ((j : ℕ) (u : View E) → get_elem? views j ≡ some u → Retired views log u) → Retired (set views i w) log w
+  gone_kept views log i v w at acts same gone =
+      let g = gone i v at in
+      subst (λ (ps : List (Past E)). Distinct ps × AllGone (set views i w) log ps) (sym same)
+      (g.0, all_on views (set views i w) log log (still_set views i v w at acts) (λ k n. refl) v.gone g.1)
+
   pub gone_same : (views : List (View E)) (log : List (Entry E)) (i : ℕ) (v : View E) → get_elem? views i ≡ some v
       → ((j : ℕ) (u : View E) → get_elem? views j ≡ some u → Retired views log u) → Retired (set views i v) log v
-  gone_same views log i v at gone =
-      let g = gone i v at in
-      (g.0, all_on views (set views i v) log log (still_set views i v v at (λ a. a)) (λ k n. refl) v.gone g.1)
+  gone_same views log i v at gone = gone_kept views log i v v at (λ a. a) refl gone
 
   -- one seat more
   pub gone_end : (views : List (View E)) (log : List (Entry E)) (w : View E)

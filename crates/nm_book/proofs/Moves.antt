@@ -1,5 +1,5 @@
 -- Each move keeps the log.
-use Rattle.std.proofs.Common.{◌≡◌, ◌≢◌, ℕ, zero, suc, ◌+◌, ◌≤◌, ◌<◌, ⊎_elim, List, [], ◌∷◌, ◌++◌, length, set, true, false, refl, ap, sym, ◌∙◌, subst, arith, eq-eqb, ne_eqb}
+use Rattle.std.proofs.Common.{◌≡◌, ◌≢◌, ℕ, zero, suc, ◌+◌, ◌≤◌, ◌<◌, ◌⊎◌, inl, inr, ⊎_elim, List, [], ◌∷◌, ◌++◌, length, set, true, false, refl, ap, sym, ◌∙◌, subst, arith, eq-eqb, ne_eqb}
 use Rattle.std.specs.Prelude.{◌==◌, if◌then◌else◌, IfSome}
 use mathlib.Core.Option.{some, some-injective, some-ne-none}
 use mathlib.Core.List.{IsPrefix}
@@ -12,9 +12,10 @@ use Rattle.nm_book.specs.declared.rule.Entry.{Entry}
 use Rattle.nm_book.specs.declared.rule.Role.{Role}
 use Rattle.nm_book.specs.declared.rule.Role.TheVariants.{Idle, Keeps}
 use Rattle.nm_book.specs.declared.rule.View.{View}
-use Rattle.nm_book.specs.Log.{of_shard, calls_by, whats, entry, IsLegal, all_of, Plays, Fits, Kept, view, as_maker, as_keeper, as_pass, as_told, nobody, Arrives, Observes, Adds, meeting, Retired, Gone, AllGone, Apart, AllStand, OneLog, as_closer, past_of}
+use Rattle.nm_book.specs.Log.{of_shard, calls_by, whats, entry, IsLegal, IsAmong, AllOver, Knows, all_of, over_of, Plays, Fits, Kept, view, as_maker, as_keeper, as_pass, as_told, nobody, Arrives, Observes, Adds, meeting, Retired, Gone, AllGone, Apart, AllStand, OneLog, as_closer, past_of}
 use Rattle.nm_book.specs.declared.rule.Past.{Past}
-use Rattle.nm_book.proofs.Gone.{gone_set, gone_same, gone_end, gone_join, apart_of}
+use Rattle.nm_book.specs.declared.rule.Shard.{Shard}
+use Rattle.nm_book.proofs.Gone.{gone_set, gone_kept, gone_same, gone_end, gone_join, apart_of}
 use Rattle.nm_book.proofs.Lists.{prefix_self, prefix_longer, at_end, is_there, set_length, calls_own, calls_other, shard_own, shard_other, whats_longer, length_end}
 
 module _ {E : Type 0} (legal : ℕ → List E → Type 0) where
@@ -322,7 +323,7 @@ module _ {E : Type 0} (legal : ℕ → List E → Type 0) where
         mine = λ a. calls_other k.log e j (λ (same : v.who ≡ j). apart (sym same ∙ who)) ∙ o.mine a;
         who = o.who;
         met = o.met;
-        role = λ t owns. (let p = o.role t owns in (p.0, p.1 ∙ sym (shard_other k.log e t (λ (same : s ≡ t). apart (p.0 ∙ (ap k.seat (sym same) ∙ sym had.0))))));
+        role = λ t owns. (let p = o.role t owns in (p.0, subst (Knows u.role t) (sym (shard_other k.log e t (λ (same : s ≡ t). apart (p.0 ∙ (ap k.seat (sym same) ∙ sym had.0))))) p.1));
       })
 
       legal_on : IsLegal legal log
@@ -352,7 +353,7 @@ module _ {E : Type 0} (legal : ℕ → List E → Type 0) where
         subst (IsPrefix v.heard) (sym old.seen.1) old.heard,
         subst (IsLegal legal) (sym old.seen.1) k.is_legal,
         λ acts. (ap (calls_by v.who) old.seen.1 ∙ (ap (λ (z : ℕ). calls_by z k.log) (old.who acts) ∙ old.mine acts), subst (λ (z : ℕ). IfSome v.met (λ k. k ≢ z)) (sym (old.who acts)) old.met),
-        λ s owns. (let p = old.role s owns in p.1 ∙ ap (of_shard s) (sym old.seen.1)),
+        λ s owns. (let p = old.role s owns in subst (Knows v.role s) (ap (of_shard s) (sym old.seen.1)) p.1),
       ),
       refl,
     ),
@@ -472,34 +473,34 @@ module _ {E : Type 0} (legal : ℕ → List E → Type 0) where
       spent = record { seen = (k.log, refl); heard = (k.log, refl); mine = λ (e : false ≡ true). absurd cc; who = λ (e : false ≡ true). absurd cc; met = tt; role = λ t none. absurd none }
 
   -- who collects the passes whose calls are over comes
-  pub closer_arrives : (slots : ℕ) → Enters (λ (s : State (Unit {0}) (View E)). Kept legal s.views) slots 0 (λ m w. w ≡ as_closer [])
+  pub closer_arrives : (slots : ℕ) → Enters (λ (s : State (Unit {0}) (View E)). Kept legal s.views) slots 0 (λ m w. w ≡ as_closer [] [])
   closer_arrives slots s k no_slots small = (
-    as_closer [],
+    as_closer [] [],
     record {
       log = k.log;
       seat = k.seat;
       is_legal = k.is_legal;
-      fits = fits_end k.seat k.log s.views (as_closer []) (λ j u l e. k.fits j u e) next;
-      fresh = λ i le. k.fresh i (omega (arith, length_end s.views (as_closer []), le));
-      gone = gone_end s.views k.log (as_closer []) k.gone (tt, tt);
+      fits = fits_end k.seat k.log s.views (as_closer [] []) (λ j u l e. k.fits j u e) next;
+      fresh = λ i le. k.fresh i (omega (arith, length_end s.views (as_closer [] []), le));
+      gone = gone_end s.views k.log (as_closer [] []) k.gone (tt, tt);
     },
     refl,
   )
     where
-      next : Fits {E = E} k.seat k.log (length s.views) (as_closer [])
+      next : Fits {E = E} k.seat k.log (length s.views) (as_closer [] [])
       next = record {
         seen = (k.log, refl);
         heard = (k.log, refl);
         mine = λ (e : false ≡ true). absurd cc;
         who = λ (e : false ≡ true). absurd cc;
         met = tt;
-        role = λ t none. absurd none;
+        role = λ t none. absurd none.1;
       }
 
   -- and takes in one of them
-  pub closes : (by : ℕ) (gone : List (Past E)) (other : ℕ) (w : View E) → w.acts ≡ true
-      → Joins (λ (x : State (Unit {0}) (View E)). Kept legal x.views) by (as_closer gone) other w (as_closer (past_of w ∷ gone)) nobody
-  closes by gone other w acts x k at apart there = record {
+  pub closes : (by : ℕ) (gone : List (Past E)) (shards : List (Shard E)) (other : ℕ) (w : View E) → w.acts ≡ true
+      → Joins (λ (x : State (Unit {0}) (View E)). Kept legal x.views) by (as_closer gone shards) other w (as_closer (past_of w ∷ gone) shards) nobody
+  closes by gone shards other w acts x k at apart there = record {
     log = k.log;
     seat = k.seat;
     is_legal = k.is_legal;
@@ -516,25 +517,25 @@ module _ {E : Type 0} (legal : ℕ → List E → Type 0) where
   }
     where
       both : View E
-      both = as_closer (past_of w ∷ gone)
+      both = as_closer (past_of w ∷ gone) shards
 
       after : List (View E)
       after = set (set x.views by both) other nobody
 
       on : (ps : List (Past E)) → AllGone x.views k.log ps → AllGone after k.log ps
-      on ps all = gone_join x.views k.log by (as_closer gone) both other w nobody at (λ a. a) there refl k.gone ps all
+      on ps all = gone_join x.views k.log by (as_closer gone shards) both other w nobody at (λ a. a) there refl k.gone ps all
 
       was : get_elem? x.views other ≡ some w
       was = ⊎_elim (λ (t : (other ≡ by) × (both ≡ w)). absurd (apart t.0)) (λ (t : (other ≢ by) × (get_elem? x.views other ≡ some w)). t.1) (at_set x.views by other both w there)
 
-      old : Fits {E = E} k.seat k.log by (as_closer gone)
-      old = k.fits by (as_closer gone) at
+      old : Fits {E = E} k.seat k.log by (as_closer gone shards)
+      old = k.fits by (as_closer gone shards) at
 
       theirs : Fits {E = E} k.seat k.log other w
       theirs = k.fits other w was
 
-      before : Retired x.views k.log (as_closer gone)
-      before = k.gone by (as_closer gone) at
+      before : Retired x.views k.log (as_closer gone shards)
+      before = k.gone by (as_closer gone shards) at
 
       last : Gone {E = E} after k.log (past_of w)
       last = record {
@@ -553,30 +554,96 @@ module _ {E : Type 0} (legal : ℕ → List E → Type 0) where
       )
 
       own : Fits {E = E} k.seat k.log by both
-      own = record { seen = old.seen; heard = old.heard; mine = old.mine; who = old.who; met = tt; role = λ t none. absurd none }
+      own = record { seen = old.seen; heard = old.heard; mine = old.mine; who = old.who; met = tt; role = old.role }
 
       spent : Fits {E = E} k.seat k.log other nobody
+      spent = record { seen = (k.log, refl); heard = (k.log, refl); mine = λ (e : false ≡ true). absurd cc; who = λ (e : false ≡ true). absurd cc; met = tt; role = λ t none. absurd none }
+
+  -- and the keeper of a shard that is over, whose seat is spent
+  pub closes_shard : (by : ℕ) (gone : List (Past E)) (shards : List (Shard E)) (other s : ℕ) (all : List (Entry E))
+      → Joins (λ (x : State (Unit {0}) (View E)). Kept legal x.views) by (as_closer gone shards) other (as_keeper s all) (as_closer gone (over_of (as_keeper s all) ∷ shards)) nobody
+  closes_shard by gone shards other s all x k at apart there = record {
+    log = k.log;
+    seat = moved k.seat s by;
+    is_legal = k.is_legal;
+    fits = fits_set (moved k.seat s by) k.log (set x.views by both) other nobody
+        (λ j u not e. fits_set2 j u not e) spent;
+    fresh = λ i le. k.fresh i (omega (arith, set_length x.views by both, set_length (set x.views by both) other nobody, le));
+    gone = gone_set (set x.views by both) k.log k.log other (as_keeper s all) nobody there (λ (e : false ≡ true). absurd cc) (λ k n. refl) (gone_set x.views k.log k.log by (as_closer gone shards) both at (λ a. a) (λ k n. refl) k.gone (gone_kept x.views k.log by (as_closer gone shards) both at (λ a. a) refl k.gone)) (tt, tt);
+  }
+    where
+      both : View E
+      both = as_closer gone (over_of (as_keeper s all) ∷ shards)
+
+      old : Fits {E = E} k.seat k.log by (as_closer gone shards)
+      old = k.fits by (as_closer gone shards) at
+
+      theirs : Fits {E = E} k.seat k.log other (as_keeper s all)
+      theirs = ⊎_elim (λ (t : (other ≡ by) × (both ≡ as_keeper s all)). absurd (apart t.0)) (λ (t : (other ≢ by) × (get_elem? x.views other ≡ some (as_keeper s all))). k.fits other (as_keeper s all) t.1) (at_set x.views by other both (as_keeper s all) there)
+
+      had : (other ≡ k.seat s) × (all ≡ of_shard s k.log)
+      had = theirs.role s refl
+
+      -- the shard is the last, or one from before
+      Last : ℕ → List (Entry E) → Type 0
+      Last t those = (s ≡ t) × (all ≡ those)
+
+      at_seat : (t : ℕ) (those : List (Entry E)) → Last t those ⊎ IsAmong shards t those → by ≡ moved k.seat s by t
+      at_seat t those among = dite (ℕ_discrete t s)
+          (λ (same : t ≡ s). moved_here k.seat s by t same)
+          (λ (not : t ≢ s). ⊎_elim
+          (λ (last : Last t those). absurd (not (sym last.0)))
+          (λ (one : IsAmong shards t those). (old.role t (those, one)).0 ∙ moved_else k.seat s by t not)
+          among)
+
+      own : Fits {E = E} (moved k.seat s by) k.log by both
+      own = record {
+        seen = old.seen;
+        heard = old.heard;
+        mine = old.mine;
+        who = old.who;
+        met = tt;
+        role = λ t owns. (
+          at_seat t owns.0 owns.1,
+          λ those among. ⊎_elim
+              (λ (last : Last t those). sym last.1 ∙ (had.1 ∙ ap (λ (z : ℕ). of_shard z k.log) last.0))
+              (λ (one : IsAmong shards t those). (old.role t (those, one)).1 those one)
+              among,
+        );
+      }
+
+      fits_set2 : (j : ℕ) (u : View E) → j ≢ other → get_elem? (set x.views by both) j ≡ some u → Fits {E = E} (moved k.seat s by) k.log j u
+      fits_set2 j u not e = ⊎_elim
+          (λ (t : (j ≡ by) × (both ≡ u)). subst (λ (y : ℕ × View E). Fits (moved k.seat s by) k.log y.0 y.1) (λ i. (sym t.0 i, t.1 i)) own)
+          (λ (t : (j ≢ by) × (get_elem? x.views j ≡ some u)). fits_on k.seat k.log s by other j u had.0 not (k.fits j u t.1))
+          (at_set x.views by j both u e)
+
+      spent : Fits {E = E} (moved k.seat s by) k.log other nobody
       spent = record { seen = (k.log, refl); heard = (k.log, refl); mine = λ (e : false ≡ true). absurd cc; who = λ (e : false ≡ true). absurd cc; met = tt; role = λ t none. absurd none }
 
   stand : (views : List (View E)) (log : List (Entry E)) (ps : List (Past E)) → AllGone views log ps → AllStand log ps
   stand views log [] all = tt
   stand views log (p ∷ ps) all = (all.0.all, stand views log ps all.1)
 
+  over : (log : List (Entry E)) (shards : List (Shard E)) → ((s : ℕ) (all : List (Entry E)) → IsAmong shards s all → all ≡ of_shard s log) → AllOver log shards
+  over log [] each = tt
+  over log (x ∷ shards) each = (each x.shard x.all (inl (refl, refl)), over log shards (λ s all one. each s all (inr one)))
+
   -- what it knows at the end
-  pub ends : (slots by : ℕ) (gone : List (Past E))
-      → Allows (λ (x : State (Unit {0}) (View E)). Kept legal x.views) slots by (as_closer gone, []) 0 (λ n. n)
-      (λ n m. (m ≡ (as_closer gone, [])) × OneLog legal gone)
-  ends slots by gone x k no_slots at small = (
-    as_closer gone,
+  pub ends : (slots by : ℕ) (gone : List (Past E)) (shards : List (Shard E))
+      → Allows (λ (x : State (Unit {0}) (View E)). Kept legal x.views) slots by (as_closer gone shards, []) 0 (λ n. n)
+      (λ n m. (m ≡ (as_closer gone shards, [])) × OneLog legal gone shards)
+  ends slots by gone shards x k no_slots at small = (
+    as_closer gone shards,
     keeps,
     tt,
     record {
       log = k.log;
       seat = k.seat;
       is_legal = k.is_legal;
-      fits = fits_set k.seat k.log x.views by (as_closer gone) (λ j u apart f. k.fits j u f) (k.fits by (as_closer gone) at);
-      fresh = λ i le. k.fresh i (omega (arith, set_length x.views by (as_closer gone), le));
-      gone = gone_set x.views k.log k.log by (as_closer gone) (as_closer gone) at (λ a. a) (λ j n. refl) k.gone (gone_same x.views k.log by (as_closer gone) at k.gone);
+      fits = fits_set k.seat k.log x.views by (as_closer gone shards) (λ j u apart f. k.fits j u f) (k.fits by (as_closer gone shards) at);
+      fresh = λ i le. k.fresh i (omega (arith, set_length x.views by (as_closer gone shards), le));
+      gone = gone_set x.views k.log k.log by (as_closer gone shards) (as_closer gone shards) at (λ a. a) (λ j n. refl) k.gone (gone_same x.views k.log by (as_closer gone shards) at k.gone);
     },
-    (refl, record { log = k.log; is_legal = k.is_legal; distinct = (k.gone by (as_closer gone) at).0; stand = stand x.views k.log gone (k.gone by (as_closer gone) at).1 }),
+    (refl, record { log = k.log; is_legal = k.is_legal; distinct = (k.gone by (as_closer gone shards) at).0; stand = stand x.views k.log gone (k.gone by (as_closer gone shards) at).1; over = over k.log shards (λ s all one. ((k.fits by (as_closer gone shards) at).role s (all, one)).1 all one) }),
   )

@@ -1,5 +1,5 @@
 -- The log of all shards, and what each seat knows of it.
-use Rattle.std.specs.Prelude.{ℕ, ◌<◌, ◌≡◌, ◌≢◌, ◌≤◌, ◌==◌, if◌then◌else◌, Bool, true, false}
+use Rattle.std.specs.Prelude.{ℕ, ◌<◌, ◌≡◌, ◌≢◌, ◌≤◌, ◌⊎◌, ◌==◌, if◌then◌else◌, Bool, true, false}
 use Rattle.std.specs.Prelude.{List, [], ◌∷◌, ◌++◌, length, map, Option, None, Some, IfSome}
 use mathlib.Core.Option.{some}
 use mathlib.Core.List.{IsPrefix}
@@ -7,8 +7,9 @@ use lib.ListN.{get_elem?}
 use Rattle.atomic_table.specs.Seated.{TableId}
 use Rattle.nm_book.specs.declared.rule.Entry.{Entry}
 use Rattle.nm_book.specs.declared.rule.Role.{Role}
-use Rattle.nm_book.specs.declared.rule.Role.TheVariants.{Idle, Keeps, Makes}
+use Rattle.nm_book.specs.declared.rule.Role.TheVariants.{Ends, Idle, Keeps, Makes}
 use Rattle.nm_book.specs.declared.rule.Past.{Past}
+use Rattle.nm_book.specs.declared.rule.Shard.{Shard}
 use Rattle.nm_book.specs.declared.rule.View.{View}
 
 -- the name of no book
@@ -34,6 +35,11 @@ pub record KeeperView (E : Type 0) : Type 0 where
   pub shard : ℕ
   pub all : List (Entry E)
 
+-- and of who collects passes and shards that are over: these
+pub record ClosedView (E : Type 0) : Type 0 where
+  pub passes : List (Past E)
+  pub shards : List (Shard E)
+
 module _ {E : Type 0} where
   -- the entries of one shard
   abbrev pub of_shard : ℕ → List (Entry E) → List (Entry E)
@@ -56,27 +62,47 @@ module _ {E : Type 0} where
   abbrev pub IsLegal : (ℕ → List E → Type 0) → List (Entry E) → Type 0
   IsLegal legal log = (s : ℕ) → legal s (whats (of_shard s log))
 
+  -- the shard is one of these, with these entries
+  abbrev pub IsAmong : List (Shard E) → ℕ → List (Entry E) → Type 0
+  IsAmong [] s all = ⊥
+  IsAmong (x ∷ shards) s all = ((x.shard ≡ s) × (x.all ≡ all)) ⊎ IsAmong shards s all
+
   -- a shard that a role has to itself
   abbrev pub Owns : Role E → ℕ → Type 0
   Owns Idle s = ⊥
   Owns (Keeps t all) s = t ≡ s
   Owns (Makes n) s = n ≤ s
+  Owns (Ends shards) s = (all : List (Entry E)) × IsAmong shards s all
 
-  -- the entries of such a shard
-  abbrev pub all_of : Role E → List (Entry E)
-  all_of Idle = []
-  all_of (Keeps t all) = all
-  all_of (Makes n) = []
+  -- what the role knows of such a shard is that these are its entries
+  abbrev pub Knows : Role E → ℕ → List (Entry E) → Type 0
+  Knows Idle s there = Unit {0}
+  Knows (Keeps t all) s there = all ≡ there
+  Knows (Makes n) s there = [] ≡ there
+  Knows (Ends shards) s there = (all : List (Entry E)) → IsAmong shards s all → all ≡ there
 
   -- the seat alone has its shards, and knows all of their entries
   abbrev pub Plays : Role E → ℕ → (ℕ → ℕ) → List (Entry E) → Type 0
-  Plays role by seat log = (s : ℕ) → Owns role s → (by ≡ seat s) × (all_of role ≡ of_shard s log)
+  Plays role by seat log = (s : ℕ) → Owns role s → (by ≡ seat s) × Knows role s (of_shard s log)
 
   -- the shard of a keeper, and the first that a maker has
   abbrev pub shard_of : Role E → ℕ
   shard_of Idle = 0
   shard_of (Keeps t all) = t
   shard_of (Makes n) = n
+  shard_of (Ends shards) = 0
+
+  -- the entries of a keeper's shard
+  abbrev pub all_of : Role E → List (Entry E)
+  all_of Idle = []
+  all_of (Keeps t all) = all
+  all_of (Makes n) = []
+  all_of (Ends shards) = []
+
+  -- the shards that are over
+  abbrev pub over_in : Role E → List (Shard E)
+  over_in (Ends shards) = shards
+  over_in role = []
 
   -- what holds of one seat
   pub record Fits (seat : ℕ → ℕ) (log : List (Entry E)) (by : ℕ) (v : View E) : Type 0 where
@@ -169,13 +195,13 @@ module _ {E : Type 0} where
         gone = [];
       }
 
-  -- who collects the passes whose calls are over
-  abbrev pub as_closer : List (Past E) → View E
-  as_closer gone =
+  -- who collects the passes whose calls are over, and the shards
+  abbrev pub as_closer : List (Past E) → List (Shard E) → View E
+  as_closer gone shards =
       record {
         acts = false;
         who = 0;
-        role = Idle;
+        role = Ends shards;
         seen = [];
         heard = [];
         mine = [];
@@ -186,17 +212,28 @@ module _ {E : Type 0} where
   abbrev pub past_of : View E → Past E
   past_of w = record { who = w.who; mine = w.mine }
 
+  abbrev pub over_of : View E → Shard E
+  over_of w = record { shard = shard_of w.role; all = all_of w.role }
+
   -- in the log each of these passes has just its entries
   abbrev pub AllStand : List (Entry E) → List (Past E) → Type 0
   AllStand log [] = Unit {0}
   AllStand log (p ∷ ps) = (calls_by p.who log ≡ p.mine) × AllStand log ps
 
-  -- one legal log has all entries of all of these passes, each once, in the order of its pass
-  pub record OneLog (legal : ℕ → List E → Type 0) (passes : List (Past E)) : Type 0 where
+  -- and of each of these shards just these
+  abbrev pub AllOver : List (Entry E) → List (Shard E) → Type 0
+  AllOver log [] = Unit {0}
+  AllOver log (x ∷ shards) = (x.all ≡ of_shard x.shard log) × AllOver log shards
+
+  -- one legal log has all entries of all of these passes, each once, in the order of its pass, and
+  -- of these shards just theirs
+  pub record OneLog (legal : ℕ → List E → Type 0) (passes : List (Past E))
+      (shards : List (Shard E)) : Type 0 where
     pub log : List (Entry E)
     pub is_legal : IsLegal legal log
     pub distinct : Distinct passes
     pub stand : AllStand log passes
+    pub over : AllOver log shards
 
   -- a new pass has seen the log as it is, and has no entries in it
   abbrev pub Arrives : (ℕ → List E → Type 0) → View E → Type 0
@@ -210,7 +247,7 @@ module _ {E : Type 0} where
       (more : List (Entry E)) × (w ≡ view v.acts v.who v.role (v.seen ++ more) [] v.mine)
       × IsPrefix v.heard (v.seen ++ more) × IsLegal legal (v.seen ++ more)
       × (v.acts ≡ true → (calls_by v.who (v.seen ++ more) ≡ v.mine) × IfSome v.met (λ k. k ≢ v.who))
-      × ((s : ℕ) → Owns v.role s → all_of v.role ≡ of_shard s (v.seen ++ more))
+      × ((s : ℕ) → Owns v.role s → Knows v.role s (of_shard s (v.seen ++ more)))
 
   -- the entry was added to all that there is
   abbrev pub Adds : (ℕ → List E → Type 0) → ℕ → E → View E → View E → Type 0

@@ -5,8 +5,8 @@ ghost use Rattle.nm_book.specs.Log.{as_maker, calls_by, entry, of_shard, shard_o
 ghost use mathlib.Core.List.{IsPrefix};
 
 use crate::plays::{
-    Append, Closes, Collect, End, Enter, Hears, LetsGo, Meets, NextKeeper, Observe, Picks,
-    TakesAlong, Tells,
+    Append, Closes, ClosesShard, Collect, End, Enter, Hears, LetsGo, Meets, NextKeeper, Observe,
+    Picks, TakesAlong, Tells,
 };
 use crate::rule::{Legality, Naming, Notes, Rule, View};
 use crate::tokens::{Closer, Keeper, Pass, Told};
@@ -188,9 +188,9 @@ impl<E, G: Legality<E>, J: Naming> Book<E, G, J> {
         shared.load::<Observe<G>>(&mut pass.seat, 0);
     }
 
-    /// Who collects passes: none yet.
+    /// Who collects passes and shards: none yet.
     pub fn closer(&self) -> Closer<E, J>
-        ensures { result ≡ [] }
+        ensures { result ≡ record { passes = []; shards = [] } }
     {
         let (_, seat) = self.table.shared.load_new_seat::<Collect>(0);
         Closer {
@@ -201,16 +201,30 @@ impl<E, G: Legality<E>, J: Naming> Book<E, G, J> {
 
     /// Takes in a pass whose calls are over.
     pub fn close(&self, closer: &mut Closer<E, J>, pass: Pass<E, J>)
-        ensures { closer.new ≡ record { who = pass.who; mine = pass.mine } ∷ closer.old }
+        ensures passes { closer.new.passes
+            ≡ record { who = pass.who; mine = pass.mine } ∷ closer.old.passes }
+        ensures shards { closer.new.shards ≡ closer.old.shards }
     {
         self.table
             .shared
             .join_seat::<Closes>(&mut closer.seat, pass.seat);
     }
 
-    /// One legal log has all entries of all of these passes, each once, in the order of its pass.
+    /// Takes in the keeper of a shard that is over.
+    pub fn close_shard(&self, closer: &mut Closer<E, J>, keeper: Keeper<E, J>)
+        ensures passes { closer.new.passes ≡ closer.old.passes }
+        ensures shards { closer.new.shards
+            ≡ record { shard = keeper.shard; all = keeper.all } ∷ closer.old.shards }
+    {
+        self.table
+            .shared
+            .join_seat::<ClosesShard>(&mut closer.seat, keeper.seat);
+    }
+
+    /// One legal log has all entries of all of these passes, each once, in the order of its pass,
+    /// and of each of these shards just its entries.
     pub fn end(&self, closer: &mut Closer<E, J>)
-        ensures one { OneLog G.legal closer.old }
+        ensures one { OneLog G.legal closer.old.passes closer.old.shards }
         ensures same { closer.new ≡ closer.old }
     {
         self.table.shared.load::<End<G>>(&mut closer.seat, 0);

@@ -1,6 +1,6 @@
 //! What each step on the table tells.
 ghost use Rattle.std.specs.Prelude.{◌≡◌, [], IfSome, Option};
-ghost use Rattle.nm_book.specs.Log.{Adds, Arrives, Observes, OneLog, as_closer, shard_of};
+ghost use Rattle.nm_book.specs.Log.{Adds, Arrives, Observes, OneLog, as_closer, over_in, shard_of};
 
 use crate::rule::{Legality, View};
 use atomic_table::{Join, Play, Split};
@@ -110,16 +110,27 @@ impl<E> Join<View<E>> for Meets {
 pub(crate) struct Collect;
 
 impl<E> Play<(), View<E>> for Collect {
-    ghost then = { λ step v n w. w.0 ≡ as_closer [] };
+    ghost then = { λ step v n w. w.0 ≡ as_closer [] [] };
 }
 
 pub(crate) struct Closes;
 
 impl<E> Join<View<E>> for Closes {
     ghost use Rattle.std.specs.Prelude.{◌∷◌};
-    ghost use Rattle.nm_book.specs.Log.{as_closer, nobody, past_of};
+    ghost use Rattle.nm_book.specs.Log.{as_closer, nobody, over_in, past_of};
 
-    ghost both = { λ v w. as_closer (past_of w ∷ v.gone) };
+    ghost both = { λ v w. as_closer (past_of w ∷ v.gone) (over_in v.role) };
+
+    ghost spent = { nobody };
+}
+
+pub(crate) struct ClosesShard;
+
+impl<E> Join<View<E>> for ClosesShard {
+    ghost use Rattle.std.specs.Prelude.{◌∷◌};
+    ghost use Rattle.nm_book.specs.Log.{as_closer, nobody, over_in, over_of};
+
+    ghost both = { λ v w. as_closer v.gone (over_of w ∷ over_in v.role) };
 
     ghost spent = { nobody };
 }
@@ -129,5 +140,6 @@ pub(crate) struct End<G> {
 }
 
 impl<E, G: Legality<E>> Play<(), View<E>> for End<G> {
-    ghost then = { λ step v n w. (w ≡ (as_closer v.0.gone, [])) × OneLog G.legal v.0.gone };
+    ghost then = { λ step v n w. (w ≡ (as_closer v.0.gone (over_in v.0.role), []))
+        × OneLog G.legal v.0.gone (over_in v.0.role) };
 }

@@ -10,12 +10,13 @@ pub struct Entry<E> {
     pub what: E,
 }
 
-/// What a seat may do: nothing besides what a pass does, add to a shard's entries, which it knows
-/// all, or make the keepers of the shards from some number on.
+/// What a seat may do: nothing besides what a pass does; add to a shard's entries, which it knows
+/// all; make the keepers of the shards from some number on; or keep the shards that are over.
 pub enum Role<E> {
     Idle,
     Keeps(u64, LinkedList<Entry<E>>),
     Makes(u64),
+    Ends(LinkedList<Shard<E>>),
 }
 
 /// What a seat knows: the number of its pass, a beginning of the log, one that it was told, its own
@@ -35,6 +36,12 @@ pub struct View<E> {
 pub struct Past<E> {
     pub who: u64,
     pub mine: LinkedList<Entry<E>>,
+}
+
+/// A shard that is over, to which nobody adds any more, with its entries.
+pub struct Shard<E> {
+    pub shard: u64,
+    pub all: LinkedList<Entry<E>>,
 }
 
 /// Which lists of a shard's entries are legal.

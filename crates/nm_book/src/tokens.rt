@@ -67,7 +67,8 @@ impl<E, J: Naming> Model for Told<E, J> {
         (t.seat.table_id ≡ J.table) × (t.seat.me ≡ (as_told t.seat.me.0.seen, [])) };
 }
 
-/// Who collects the passes whose calls are over. Contracts see these passes, the last one first.
+/// Who collects the passes whose calls are over, and the shards. Contracts see these passes, and
+/// these shards, the last one first.
 #[derive(Drop)]
 pub struct Closer<E, J: Naming> {
     pub(crate) seat: Seat<(), View<E>>,
@@ -75,14 +76,16 @@ pub struct Closer<E, J: Naming> {
 }
 
 impl<E, J: Naming> Model for Closer<E, J> {
-    ghost use Rattle.std.specs.Prelude.{◌≡◌, List, []};
-    ghost use Rattle.nm_book.specs.Log.{as_closer};
-    ghost use Rattle.nm_book.specs.declared.rule.Past.{Past};
+    ghost use Rattle.std.specs.Prelude.{◌≡◌, []};
+    ghost use Rattle.nm_book.specs.Log.{ClosedView, as_closer, over_in};
 
-    ghost Value = { List (Past E) };
+    ghost Value = { ClosedView E };
 
-    ghost view = { λ c. c.seat.me.0.gone };
+    ghost view = { λ c. record {
+      passes = c.seat.me.0.gone;
+      shards = over_in c.seat.me.0.role;
+    } };
 
-    ghost invariant = { λ c.
-        (c.seat.table_id ≡ J.table) × (c.seat.me ≡ (as_closer c.seat.me.0.gone, [])) };
+    ghost invariant = { λ c. (c.seat.table_id ≡ J.table)
+        × (c.seat.me ≡ (as_closer c.seat.me.0.gone (over_in c.seat.me.0.role), [])) };
 }

@@ -8,5 +8,5 @@ join_seat-requires g c = (
   c.pass.invariant.own ∙ sym c.args.self.now.own,
   ap (λ m. m.1) c.pass.invariant.view_is,
   omega (arith, c.args.self.now.sized.0),
-  closes_as g.G.Legality.legal _ _ _ _ _ (ap (λ m. m.0) c.closer.invariant.1) (ap (λ m. m.0.acts) c.pass.invariant.view_is),
+  closes_as g.G.Legality.legal _ _ _ _ _ _ (ap (λ m. m.0) c.closer.invariant.1) (ap (λ m. m.0.acts) c.pass.invariant.view_is),
 )

@@ -6,5 +6,5 @@ pub load-requires : goal.load-requires
 load-requires g c = (
   c.closer.invariant.0 ∙ sym c.args.self.now.own,
   omega (arith, c.args.self.now.sized.0),
-  ends_as g.G.Legality.legal _ _ _ _ c.closer.invariant.1,
+  ends_as g.G.Legality.legal _ _ _ _ _ c.closer.invariant.1,
 )
