@@ -1,8 +1,10 @@
 mod ClaimingLemmas
 mod CountedLemmas
+mod EndingLemmas
 mod GlanceLemmas
 mod HeldLemmas
 mod HeldSame
+mod JointLemmas
 mod ListLemmas
 mod MarkedLemmas
 mod NotedLemmas

@@ -1,5 +1,6 @@
 -- One transition more in what is noted of a stripe.
 use Rattle.std.proofs.Common.{◌≡◌, ℕ, List, [], ◌∷◌, ◌++◌, Option, Some, append_assoc, refl, sym, ap, subst, ◌∙◌}
+use Rattle.std.specs.Prelude.{IfSome}
 use Rattle.nm_book.specs.declared.rule.Entry.{Entry}
 use Rattle.nm_book.specs.Log.{KeeperView, NotesOn, PassView, entry, whats}
 use Rattle.nm_book.proofs.Lists.{calls_own, whats_longer}
@@ -39,6 +40,16 @@ module _ {L : Type 0} (type : LegType L) where
     legal = subst (λ (p : Option (KeeperView (Transition L))). HasHistory type p) is has;
     last = sym (ap (λ (p : Option (KeeperView (Transition L))). led_to p) is) ∙ leads;
   }
+
+  leads-if-some : (number : ℕ) (list : List (Transition L)) → LegalMoves type number list → IfSome (last_of list) (LeadsTo type number list)
+  leads-if-some number [] legal = tt
+  leads-if-some number (first ∷ list) legal = record { legal = legal; last = refl }
+
+  -- so does what it knows when it comes out
+  pub keeper-ends : (o : Option (KeeperView (Transition L))) (keeper : KeeperView (Transition L)) → o ≡ Some keeper → HasHistory type o → IfSome (led_to o) (LeadsTo type keeper.shard (whats keeper.all))
+  keeper-ends o keeper is has =
+      subst (λ (p : Option (KeeperView (Transition L))). IfSome (led_to p) (LeadsTo type keeper.shard (whats keeper.all))) (sym is)
+      (leads-if-some keeper.shard (whats keeper.all) (subst (λ (p : Option (KeeperView (Transition L))). HasHistory type p) is has))
 
   -- one more
   pub leads-on : (keeper : KeeperView (Transition L)) (from to : GatedStripe L) (made : Move L) → LeadsTo type keeper.shard (whats keeper.all) from → MoveOf type none_lost made from to → LeadsTo type keeper.shard (whats keeper.all ++ told made to ∷ []) to

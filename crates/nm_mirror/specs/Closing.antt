@@ -2,7 +2,7 @@
 use Rattle.std.specs.Prelude.{◌≡◌, ◌<◌, ◌≤◌, ◌+◌, ℕ, List, Option, None, Some, length}
 use Rattle.std.specs.Prelude.{slice_get, sum_by, take, All}
 use Rattle.nm_mirror.specs.LaneState.{LaneState}
-use Rattle.nm_stripe.specs.End.{EndOf}
+use Rattle.nm_mirror.specs.Reopening.{EndOfOpenings, end_of_all}
 use Rattle.nm_mirror.specs.declared.pass.Pass.{Pass}
 use Rattle.nm_mirror.specs.declared.refused.Refused.{Refused}
 use Rattle.nm_mirror.specs.declared.refused.Refused.TheVariants.{Memory, PassesMissing, Uneven}
@@ -21,16 +21,17 @@ abbrev pub count_in_all : {L J : Type 0} → ℕ → List (Pass L J) → ℕ
 count_in_all stripe passes = sum_by (count_in stripe) passes
 
 -- the stripe's history has had just the entries that the passes counted and that its records have
-abbrev pub IsEven : {L J : Type 0} → List (Pass L J) → EndOf → Type 0
-IsEven passes end = end.total ≡ count_in_all end.stripe passes + end.landed
+abbrev pub IsEven : {L J : Type 0} → List (Pass L J) → EndOfOpenings → Type 0
+IsEven passes end =
+    let all = end_of_all end in all.total ≡ count_in_all all.stripe passes + all.landed
 
 -- each of the ends is even
-abbrev pub AreEven : {L J : Type 0} → List (Pass L J) → List EndOf → Type 0
+abbrev pub AreEven : {L J : Type 0} → List (Pass L J) → List EndOfOpenings → Type 0
 AreEven passes ends = All (IsEven passes) ends
 
 -- this end is the first that is not even
-pub record IsFirstUneven {L J : Type 0} (passes : List (Pass L J)) (ends : List EndOf)
-    (end : EndOf) : Type 0 where
+pub record IsFirstUneven {L J : Type 0} (passes : List (Pass L J)) (ends : List EndOfOpenings)
+    (end : EndOfOpenings) : Type 0 where
   pub place : ℕ
   pub found : slice_get ends place ≡ Some end
   pub uneven : ¬ IsEven passes end

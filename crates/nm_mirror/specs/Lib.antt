@@ -6,9 +6,11 @@ pub mod CopyRound
 pub mod Counted
 pub mod Counting
 pub mod Counts
+pub mod Ending
 pub mod Glances
 pub mod Holding
 pub mod Joining
+pub mod JointHistory
 pub mod LaneState
 pub mod Looking
 pub mod Marked

@@ -33,11 +33,16 @@ past_after end past = record {
   landed = sum_of past.landed end.landed;
 }
 
--- the end of a stripe of these earlier openings whose last one ends so: what all have had
-abbrev pub with_past : Past → EndOf → EndOf
-with_past past end =
-    let all = past_after end past in
-    record { stripe = end.stripe; total = all.total; left = all.left; landed = all.landed }
+-- the end of a stripe: of its last opening, and what the earlier ones have had
+pub record EndOfOpenings : Type 0 where
+  pub last : EndOf
+  pub past : Past
+
+-- what all of them have had
+abbrev pub end_of_all : EndOfOpenings → EndOf
+end_of_all end =
+    let all = past_after end.last end.past in
+    record { stripe = end.last.stripe; total = all.total; left = all.left; landed = all.landed }
 
 -- of so many legs the superblock, where there is one, may call none in sync but the master
 abbrev pub NamesAtMost : (legs master : ℕ) → Option Durable → Type 0

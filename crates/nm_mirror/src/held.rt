@@ -43,14 +43,16 @@ fn names_at_most(durable: &DurableState, legs: u8, master: u8) -> bool
 impl<L: LegPart, J: Naming> Held<L, J> {
     ghost use Rattle.nm_leg.specs.Leg.{leg_type};
     ghost use Rattle.nm_leg.specs.LegCalls.{EachHas};
+    ghost use Rattle.nm_book.specs.Log.{whats};
+    ghost use Rattle.nm_history.specs.History.{LeadsTo};
     ghost use Rattle.nm_mirror.specs.Asks.{LetsPass};
+    ghost use Rattle.nm_mirror.specs.Ending.{end_of_held};
     ghost use Rattle.nm_mirror.specs.Reopening.{GoesOn, NamesAtMost, Reopens};
-    ghost use Rattle.nm_mirror.specs.Reopening.{no_past, with_past};
+    ghost use Rattle.nm_mirror.specs.Reopening.{no_past};
     ghost use Rattle.nm_mirror.specs.declared.ask.Ask.TheVariants.{Answer};
     ghost use Rattle.nm_regions.specs.Sound.{AreSizes};
     ghost use Rattle.nm_resync.specs.Chunk.{IsChunkSize};
     ghost use Rattle.nm_rules.specs.State.{next_number};
-    ghost use Rattle.nm_stripe.specs.End.{end_of};
 
     /// A stripe in its first opening, of which nothing was noted yet.
     pub(crate) fn new(
@@ -77,9 +79,17 @@ impl<L: LegPart, J: Naming> Held<L, J> {
 
     /// What the end of the stripe tells, if it ended now: of all of its openings.
     pub(crate) fn end(&self) -> StripeEnd<L>
-        ensures { result ≡ with_past self.now.past (end_of self.now.gated.stripe) }
+        ensures { result ≡ end_of_held self.now }
     {
-        StripeEnd::of(self.past, &self.gated.stripe.end())
+        StripeEnd::of(self.past, self.gated.stripe.end())
+    }
+
+    /// The keeper of the stripe's shard of the log, whose transitions lead to the stripe.
+    pub(crate) fn into_keeper(self) -> StripeKeeper<L, J>
+        ensures { LeadsTo (leg_type L.model L.honest) result.shard (whats result.all) self.gated }
+    {
+        let Held { trail, .. } = self;
+        trail.into_keeper()
     }
 
     /// Whether the superblock may call no leg in sync but the master.

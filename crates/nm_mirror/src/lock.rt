@@ -59,7 +59,68 @@ pub struct Lock<L: LegPart, J: Naming> {
     after: Line,
 }
 
+/// A lock that is taken apart, and what was behind it: nobody else has it.
+#[derive(Drop)]
+pub(crate) struct Unlocked<L: LegPart, J: Naming> {
+    pub held: Held<L, J>,
+    pub number: u32,
+    unsynced: AtomicBool,
+    age: AtomicU8,
+    written: AtomicBool,
+    door: Door,
+    got: AtomicU64,
+    desk: Option<Arc<SaveDesk>>,
+}
+
+impl<L: LegPart, J: Naming> Unlocked<L, J> {
+    ghost use Rattle.nm_book.specs.Log.{whats};
+    ghost use Rattle.nm_history.specs.History.{LeadsTo};
+    ghost use Rattle.nm_leg.specs.Leg.{leg_type};
+
+    /// The keeper of its stripe's shard of the log, whose transitions lead to the stripe.
+    pub(crate) fn into_keeper(self) -> StripeKeeper<L, J>
+        ensures { LeadsTo (leg_type L.model L.honest) result.shard (whats result.all)
+            self.held.gated }
+    {
+        self.held.into_keeper()
+    }
+
+    /// The lock, put together again.
+    pub(crate) fn lock(self) -> Lock<L, J>
+        ensures { result.number ≡ self.number }
+    {
+        Lock {
+            before: [0; 8],
+            held: Mutex::new(self.held),
+            number: self.number,
+            unsynced: self.unsynced,
+            age: self.age,
+            written: self.written,
+            door: self.door,
+            got: self.got,
+            desk: self.desk,
+            after: [0; 8],
+        }
+    }
+}
+
 impl<L: LegPart, J: Naming> Lock<L, J> {
+    /// The lock, taken apart.
+    pub(crate) fn unlock(self) -> Unlocked<L, J>
+        ensures { result.number ≡ self.number }
+    {
+        Unlocked {
+            held: self.held.into_inner(),
+            number: self.number,
+            unsynced: self.unsynced,
+            age: self.age,
+            written: self.written,
+            door: self.door,
+            got: self.got,
+            desk: self.desk,
+        }
+    }
+
     /// This stripe behind a lock, which has its number, with the keeper of its shard of the log.
     /// Nothing was noted or written yet, and a sync is due: what the legs hold may have come before
     /// their opening.

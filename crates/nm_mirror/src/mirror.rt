@@ -21,8 +21,8 @@ use std::sync::{Arc, Mutex, MutexGuard, Wait};
 
 /// A mirror: its stripes, by rising number, each behind a lock of its own that has its number; the
 /// gate that its calls pass between their steps; how many passes it made; whose turn it is to shut
-/// out writes; where saves are asked for, if it has superblocks; and which legs are paused, a bit
-/// each. The lock of that count is taken by `pass` alone.
+/// out writes; where saves are asked for, if it has superblocks; its log; and which legs are paused,
+/// a bit each. The lock of that count is taken by `pass` alone.
 #[derive(Drop)]
 pub struct Mirror<L: LegPart, G: Gate + Drop, J: Naming> {
     pub(crate) shape: Shape,
@@ -31,7 +31,8 @@ pub struct Mirror<L: LegPart, G: Gate + Drop, J: Naming> {
     pub(crate) made: Mutex<u32>,
     pub(crate) shutting: Mutex<()>,
     pub(crate) desk: Option<Arc<SaveDesk>>,
-    paused: AtomicU32,
+    pub(crate) book: Arc<Log<L, J>>,
+    pub(crate) paused: AtomicU32,
     ghost one_each: { vec_len locks ≡ shape.stripes },
     ghost in_order: { AreInOrder (map (λ lock. lock.number) locks.items) },
 }
@@ -149,6 +150,7 @@ impl<L: LegPart, G: Gate + Drop, J: Naming> Mirror<L, G, J> {
             made: Mutex::new(0),
             shutting: Mutex::new(()),
             desk,
+            book,
             paused: AtomicU32::new(0),
         })
     }

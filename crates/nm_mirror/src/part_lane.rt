@@ -59,6 +59,14 @@ impl<L: LegPart, J: Naming> PartLane<L, J> {
         self.part.count()
     }
 
+    /// Its pass through the log.
+    pub(crate) fn into_pass(self) -> LogPass<L, J>
+        ensures { result ≡ self.pass }
+    {
+        let PartLane { pass, .. } = self;
+        pass
+    }
+
     /// From now on a write begins only where none began since this look, or always.
     pub(crate) fn begin_since(&mut self, since: Option<Sight>)
         ensures { self.new ≡ self.old }

@@ -1,9 +1,9 @@
 //! What a stripe has had, over all of its openings.
 ghost use Rattle.std.specs.Prelude.{◌≡◌};
-ghost use Rattle.nm_mirror.specs.Reopening.{past_after, with_past};
+ghost use Rattle.nm_mirror.specs.Reopening.{end_of_all, past_after};
 
 use nm_stripe::End;
-use std::marker::{Model, PhantomData};
+use std::marker::Model;
 
 /// What the earlier openings of a stripe have had: their entries, and the blocks of the writes that
 /// were left as each ended, and how many of those have an entry.
@@ -26,68 +26,56 @@ impl Past {
 }
 
 /// What the end of a mirror tells of a stripe: how many entries it has had in all of its openings,
-/// and what was left of its writes as each ended.
+/// and what was left of its writes as each ended. Contracts see the last opening by itself.
 ///
 /// Only a close makes one.
 #[derive(Drop)]
 pub struct StripeEnd<L> {
-    stripe: u32,
-    all: Past,
-    of: PhantomData<L>,
+    last: End<L>,
+    past: Past,
 }
 
 impl<L> Model for StripeEnd<L> {
-    ghost use Rattle.nm_stripe.specs.End.{EndOf};
+    ghost use Rattle.nm_mirror.specs.Reopening.{EndOfOpenings};
 
-    ghost Value = { EndOf };
+    ghost Value = { EndOfOpenings };
 
-    ghost view = { λ e. record {
-      stripe = e.stripe;
-      total = e.all.total;
-      left = e.all.left;
-      landed = e.all.landed;
-    } };
+    ghost view = { λ e. record { last = e.last; past = e.past } };
 }
 
 impl<L> StripeEnd<L> {
     /// The end of a stripe whose last opening ends so, after these earlier ones.
-    pub(crate) fn of(past: Past, end: &End<L>) -> Self
-        ensures { result ≡ with_past past end.now }
+    pub(crate) fn of(past: Past, last: End<L>) -> Self
+        ensures { result ≡ record { last = last; past = past } }
     {
-        let mut all = past;
-        all.add(end);
-        StripeEnd {
-            stripe: end.stripe(),
-            all,
-            of: PhantomData,
-        }
+        StripeEnd { last, past }
     }
 
     /// The stripe's number.
     pub fn stripe(&self) -> u32
-        ensures { result ≡ self.now.stripe }
+        ensures { result ≡ self.now.last.stripe }
     {
-        self.stripe
+        self.last.stripe()
     }
 
     /// How many entries the histories of all its openings have had.
     pub fn total(&self) -> u64
-        ensures { result ≡ self.now.total }
+        ensures { result ≡ (end_of_all self.now).total }
     {
-        self.all.total
+        self.past.total.saturating_add(self.last.total())
     }
 
     /// How many blocks the writes have that have not been claimed.
     pub fn left(&self) -> u64
-        ensures { result ≡ self.now.left }
+        ensures { result ≡ (end_of_all self.now).left }
     {
-        self.all.left
+        self.past.left.saturating_add(self.last.left())
     }
 
     /// How many of those have an entry.
     pub fn landed(&self) -> u64
-        ensures { result ≡ self.now.landed }
+        ensures { result ≡ (end_of_all self.now).landed }
     {
-        self.all.landed
+        self.past.landed.saturating_add(self.last.landed())
     }
 }

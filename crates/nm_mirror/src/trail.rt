@@ -1,15 +1,15 @@
 //! What is noted of a stripe in the log of the mirror.
-ghost use Rattle.std.specs.Prelude.{◌≡◌, [], ◌∷◌, Some};
-ghost use Rattle.nm_book.specs.Log.{IsLegal, shard_of};
+ghost use Rattle.std.specs.Prelude.{◌≡◌, [], ◌∷◌, IfSome, Some};
+ghost use Rattle.nm_book.specs.Log.{IsLegal, shard_of, whats};
 ghost use Rattle.nm_gate.specs.Changes.{Resaved};
 ghost use Rattle.nm_gate.specs.declared.gated_stripe.GatedStripe.{GatedStripe};
-ghost use Rattle.nm_history.specs.History.{LegalMoves};
+ghost use Rattle.nm_history.specs.History.{LeadsTo, LegalMoves};
 ghost use Rattle.nm_history.specs.Lost.{none_lost};
 ghost use Rattle.nm_history.specs.Moves.{MoveOf};
 ghost use Rattle.nm_leg.specs.Leg.{leg_type};
 ghost use Rattle.nm_mirror.specs.Trail.{MadeIf, NotesAll, noted_if};
 
-use nm_book::{Book, Keeper, Maker, Naming, Notes, Opened};
+use nm_book::{Book, Closer, Keeper, Maker, Naming, Notes, Opened};
 use nm_gate::GatedStripe;
 use nm_history::{Legal, Transition};
 use nm_leg::LegPart;
@@ -22,6 +22,9 @@ pub type Log<L, J> = Book<Transition<L>, Legal<L>, J>;
 
 /// A pass through it.
 pub type LogPass<L, J> = nm_book::Pass<Transition<L>, J>;
+
+/// Who collects passes and stripes at the end.
+pub type LogCloser<L, J> = Closer<Transition<L>, J>;
 
 /// The right to note what is done to one stripe.
 pub type StripeKeeper<L, J> = Keeper<Transition<L>, J>;
@@ -158,6 +161,16 @@ impl<L: LegPart, J: Naming> Trail<L, J> {
             keeper: Some(keeper),
             own,
         }
+    }
+
+    /// The keeper, whose transitions lead where the trail does.
+    pub(crate) fn into_keeper(self) -> StripeKeeper<L, J>
+        ensures { IfSome self
+            (LeadsTo (leg_type L.model L.honest) result.shard (whats result.all)) }
+    {
+        let Trail { keeper, .. } = self;
+        let Some(keeper) = keeper else { unreachable!() };
+        keeper
     }
 
     /// A new pass through the log.
