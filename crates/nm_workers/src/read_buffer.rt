@@ -23,9 +23,9 @@ const MOST_LONG: usize = 1024 * 1024;
 // How many bytes a header has.
 const HEADER: usize = 28;
 
-// After a long request so many headers in a row are read alone, unless another long one comes: the
-// payload of the next is then not copied either. A client that goes over to short requests pays no
-// more reads than these.
+// At first, and after a long request, so many headers in a row are read alone, unless another long
+// one comes: the payload of the next is then not copied. A client that begins with short requests,
+// or goes over to them, pays no more reads than these.
 const MOST_HEADERS: u8 = 2;
 
 // A room, and how many bytes are to be read into it before it is a piece, unless they end.
@@ -75,7 +75,7 @@ impl ReadBuffer {
             bytes: MOST,
             long: MOST,
             last_use: Use::Any,
-            headers: 0,
+            headers: MOST_HEADERS,
             ahead: HEADER,
             last: BytesMut::new(alloc),
             pool: RoomPool::new(alloc),
