@@ -27,8 +27,8 @@ pub record IsAnew (file : File) (old new : LegFile) : Type 0 where
 
 -- The leg has a superblock's file anew, the id that it has now, which is another one than before,
 -- and its identity among these.
-abbrev pub HasSuperblockAnew : (leg : ℕ) → LegIdentities → (old new : FilesState) → Type 0
-HasSuperblockAnew leg identities old new =
+abbrev pub HasNewFile : (leg : ℕ) → LegIdentities → (old new : FilesState) → Type 0
+HasNewFile leg identities old new =
     IsSome (file_of leg new.files) × IfSome (file_of leg new.files) (λ file.
     Renews leg (new_leg file (slice_index new.image.leg_ids leg) identities) old new)
 

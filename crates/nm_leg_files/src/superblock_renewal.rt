@@ -1,6 +1,6 @@
 //! A leg that is replaced gets a superblock's file of its own, and a new id.
-ghost use Rattle.std.specs.Prelude.{◌≡◌, ◌≢◌, IfErr, IfOk};
-ghost use Rattle.nm_leg_files.specs.Renewing.{IsLeftOrGone, HasSuperblockAnew};
+ghost use Rattle.std.specs.Prelude.{◌≡◌, ◌≢◌, IfErr, IfOk, OnOk};
+ghost use Rattle.nm_leg_files.specs.Renewing.{HasNewFile, IsLeftOrGone};
 ghost use Rattle.nm_saves.specs.Renewing.{LetsGo};
 
 use crate::blank_files::{blank_file, blank_window, no_memory};
@@ -122,7 +122,7 @@ impl SuperblockWriter<LateSlots> {
         own: &File,
         limit: &CallLimit,
     ) -> Result<(), Unopened>
-        ensures ok { IfOk result (λ _. HasSuperblockAnew leg identities.now self.old.files self.new.files) }
+        ensures ok { OnOk result (HasNewFile leg identities.now self.old.files self.new.files) }
         ensures err { IfErr result (λ _. IsLeftOrGone leg self.old.files self.new.files) }
         ensures others { self.new ≡ record self.old { files = self.new.files } }
     {
