@@ -3,12 +3,15 @@ pub mod Array
 pub mod Attach
 pub mod Begin
 pub mod BlockCalls
+pub mod CallsApart
+pub mod CallsOut
 pub mod Cause
 pub mod Claim
 pub mod Comparing
 pub mod Copy
 pub mod Failing
 pub mod Flushed
+pub mod HasCalls
 pub mod Invariant
 pub mod Joining
 pub mod Laws
