@@ -41,13 +41,13 @@ hand-outs-leave L = record {
 }
 
 -- what a leg counts, and what it counted before the leg at this place counted one call more
-record CountedFrom (j i : ℕ) (ls : List LegCalls) (l : LegCalls) : Type 0 where
+pub record CountedFrom (j i : ℕ) (ls : List LegCalls) (l : LegCalls) : Type 0 where
   pub was : LegCalls
   pub place : slice_get ls i ≡ Some was
   pub here : j ≡ i → l.out ≡ was.out + 1
   pub least : was.out ≤ l.out
 
-counted-at : (j i : ℕ) (ls : List LegCalls) (l : LegCalls)
+pub counted-at : (j i : ℕ) (ls : List LegCalls) (l : LegCalls)
     → slice_get (counted_on j ls) i ≡ Some l → CountedFrom j i ls l
 counted-at j i [] l at = absurd (let e : ⊥ = cc in e)
 counted-at zero zero (k ∷ ks) l at =

@@ -1,6 +1,6 @@
 -- What holds of the leg calls that are out, and what a hand-out changes.
-use Rattle.std.specs.Prelude.{◌≡◌, ℕ, zero, suc, ◌+◌, ◌^◌, ◌<◌, ◌≤◌, true, false, not, IsTrue}
-use Rattle.std.specs.Prelude.{List, [], ◌∷◌, filter, length, max, Option, None, Some, slice_get}
+use Rattle.std.specs.Prelude.{◌≡◌, ◌≢◌, ℕ, zero, suc, ◌+◌, ◌^◌, ◌<◌, ◌≤◌, true, false, not, IsTrue}
+use Rattle.std.specs.Prelude.{List, [], ◌∷◌, filter, max, Option, None, Some, slice_get}
 use Rattle.nm_leg.specs.Leg.{Leg, LegType}
 use Rattle.nm_fanout.specs.declared.write_record.Record.{Record}
 use Rattle.nm_fanout.specs.Record.{owes}
@@ -59,6 +59,15 @@ pub record MayRead {L : Type 0} (type : LegType L) (x : ReadOut) (c : Calling L)
       → IsTrue (reads_block k x) → Holds type.model c.stripe x.leg k
   pub room : next_number c.stripe + unlanded c.stripe.records
       + (x.count + blocks_read c.calls.reads) ≤ max (2 ^ 63) c.stripe.first
+
+-- A write's call may be handed out: it is owed and not out, and no read that counts is out on a
+-- block of its run there.
+pub record MayWrite {L : Type 0} (run leg : ℕ) (c : Calling L) : Type 0 where
+  pub once : is_out_on leg run c.calls ≡ false
+  pub owed : (t : ℕ) (r : Record) → find_record t c.stripe.records ≡ Some r → r.run ≡ run
+      → owes leg r ≡ true
+  pub apart : (t k : ℕ) (x : ReadOut) (r : Record) → IsStanding t x k c.calls
+      → busy_on k c.stripe.records ≡ Some r → r.run ≡ run → x.leg ≢ leg
 
 -- one call more of a leg has not returned
 abbrev pub counted_on : ℕ → List LegCalls → List LegCalls

@@ -22,6 +22,7 @@ pub mod Opening
 pub mod Promote
 pub mod Push
 pub mod Read
+pub mod ReadEnds
 pub mod Refusal
 pub mod Reopening
 pub mod RunBegin
@@ -37,3 +38,4 @@ pub mod Sound
 pub mod State
 pub mod Sync
 pub mod Unsynced
+pub mod WritesKeep
