@@ -1,7 +1,10 @@
 pub mod Blocks
+pub mod Called
 pub mod FileLeg
+pub mod Look
 pub mod Media
 pub mod Marks
 pub mod Medium
 pub mod Remembered
 pub mod Runs
+pub mod Standing

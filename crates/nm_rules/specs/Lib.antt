@@ -3,12 +3,15 @@ pub mod Array
 pub mod Attach
 pub mod Begin
 pub mod BlockCalls
+pub mod CallsApart
+pub mod CallsOut
 pub mod Cause
 pub mod Claim
 pub mod Comparing
 pub mod Copy
 pub mod Failing
 pub mod Flushed
+pub mod HasCalls
 pub mod Invariant
 pub mod Joining
 pub mod Laws
@@ -19,6 +22,7 @@ pub mod Opening
 pub mod Promote
 pub mod Push
 pub mod Read
+pub mod ReadEnds
 pub mod Refusal
 pub mod Reopening
 pub mod RunBegin
@@ -34,3 +38,4 @@ pub mod Sound
 pub mod State
 pub mod Sync
 pub mod Unsynced
+pub mod WritesKeep
