@@ -1,5 +1,9 @@
+ghost use Rattle.std.specs.Prelude.{◌++◌};
+ghost use Rattle.std.specs.Io.{WritesAtMost};
+
 use crate::client_stream::ClientStream;
 use crate::timed_stream::MOST_TRIES;
+use nm_replies::WriteChunks;
 use std::io;
 use std::io::{ErrorKind, Write};
 
@@ -15,14 +19,14 @@ impl<'a> ClientWriter<'a> {
     pub fn new(client: &'a ClientStream) -> Self {
         ClientWriter { client }
     }
-}
 
-impl Write for ClientWriter<'_> {
-    fn write(&mut self, bytes: &[u8]) -> io::Result<usize> {
+    // Writes both chunks, or a beginning of them.
+    fn send(&self, first: &[u8], second: &[u8]) -> io::Result<usize>
+        ensures bound { WritesAtMost result (first.now ++ second.now) }
+    {
         for _ in 0..MOST_TRIES {
-            let mut stream = &self.client.stream;
             self.client.activity.begin_send();
-            let written = stream.write(bytes);
+            let written = self.client.stream.send_chunks(first, second);
             self.client.activity.end_send();
             match written {
                 Err(fault) if fault.kind() == ErrorKind::Interrupted => (),
@@ -35,8 +39,20 @@ impl Write for ClientWriter<'_> {
         }
         Err(io::Error::from(ErrorKind::Interrupted))
     }
+}
+
+impl Write for ClientWriter<'_> {
+    fn write(&mut self, bytes: &[u8]) -> io::Result<usize> {
+        self.send(bytes, &[])
+    }
 
     fn flush(&mut self) -> io::Result<()> {
         Ok(())
+    }
+}
+
+impl WriteChunks for ClientWriter<'_> {
+    fn write_chunks(&mut self, first: &[u8], second: &[u8]) -> io::Result<usize> {
+        self.send(first, second)
     }
 }

@@ -1,9 +1,10 @@
 //! A connection, over TCP or over a Unix socket.
+ghost use Rattle.std.specs.Prelude.{◌++◌};
 ghost use Rattle.std.specs.Io.{ReadsAtMost, WritesAtMost};
 
 use libc::net::{POLLERR, POLLHUP, POLLIN, poll};
 use libc::types::pollfd;
-use std::io::{ErrorKind, Read, Write};
+use std::io::{ErrorKind, IoSlice, Read, Write};
 use std::net::{Shutdown, SocketAddr, TcpStream};
 use std::os::fd::{AsRawFd, RawFd};
 use std::os::unix::net::UnixStream;
@@ -151,6 +152,20 @@ fn write_unix(stream: &UnixStream, bytes: &[u8]) -> io::Result<usize>
     stream.write(bytes)
 }
 
+// Writes both chunks to a connection over TCP in one call.
+fn write_both_tcp(stream: &TcpStream, first: &[u8], second: &[u8]) -> io::Result<usize>
+    ensures bound { WritesAtMost result (first.now ++ second.now) }
+{
+    stream.write_vectored(&[IoSlice::new(first), IoSlice::new(second)])
+}
+
+// Writes both chunks to a connection over a Unix socket in one call.
+fn write_both_unix(stream: &UnixStream, first: &[u8], second: &[u8]) -> io::Result<usize>
+    ensures bound { WritesAtMost result (first.now ++ second.now) }
+{
+    stream.write_vectored(&[IoSlice::new(first), IoSlice::new(second)])
+}
+
 impl Stream {
     // What `read` does, which borrows the reference too.
     fn receive(&self, into: &mut [u8]) -> io::Result<usize>
@@ -169,6 +184,20 @@ impl Stream {
         match self {
             Stream::Tcp(stream) => write_tcp(stream, bytes),
             Stream::Unix(stream) => write_unix(stream, bytes),
+        }
+    }
+
+    /// Writes the first chunk, and the second, if it has bytes, behind it, in one call. How many
+    /// bytes it took.
+    pub fn send_chunks(&self, first: &[u8], second: &[u8]) -> io::Result<usize>
+        ensures bound { WritesAtMost result (first.now ++ second.now) }
+    {
+        if second.is_empty() {
+            return self.send(first);
+        }
+        match self {
+            Stream::Tcp(stream) => write_both_tcp(stream, first, second),
+            Stream::Unix(stream) => write_both_unix(stream, first, second),
         }
     }
 }

@@ -1,4 +1,5 @@
 use crate::stream::Stream;
+use nm_replies::WriteChunks;
 use std::cell::Cell;
 use std::io;
 use std::io::{ErrorKind, Read, Write};
@@ -78,3 +79,5 @@ impl<'a, R: Clock> Write for TimedStream<'a, R> {
         Ok(())
     }
 }
+
+impl<'a, R: Clock> WriteChunks for TimedStream<'a, R> {}

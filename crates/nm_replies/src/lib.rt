@@ -9,9 +9,11 @@ pub use read_frame::ReadFrame;
 pub use reply::Reply;
 pub use reply_writer::ReplyWriter;
 pub use send_fault::SendFault;
+pub use write_chunks::WriteChunks;
 
 mod frames;
 mod read_frame;
 mod reply;
 mod reply_writer;
 mod send_fault;
+mod write_chunks;

@@ -1,5 +1,6 @@
 ghost use Rattle.std.specs.Prelude.{◌≡◌, ◌<◌, [], Some, IfOk};
 
+use nm_replies::WriteChunks;
 use nm_wire::Memory;
 use std::alloc::Global;
 use std::io::{self, ErrorKind, Write};
@@ -84,3 +85,5 @@ impl Write for CutWriter {
         Ok(())
     }
 }
+
+impl WriteChunks for CutWriter {}

@@ -5,9 +5,9 @@ ghost use Rattle.nm_session.specs.Io.{FeedsPiece, FeedsNone, SendsOut, SendsPart
 
 use crate::serve_fault::ServeFault;
 use crate::session_core::SessionCore;
-use nm_replies::{ReplyWriter, SendFault};
+use nm_replies::{ReplyWriter, SendFault, WriteChunks};
 use std::alloc::Global;
-use std::io::{Read, Write};
+use std::io::Read;
 
 /// Reads a piece into the room and feeds it to the core. False where the input has ended.
 pub fn feed_piece<I: Read>(
@@ -34,8 +34,9 @@ pub fn feed_piece<I: Read>(
     Ok(true)
 }
 
-/// Sends what is to go out, all of it. A READ's buffer may be used again then.
-pub fn send_out<O: Write>(
+/// Sends what is to go out, all of it, in one call where the device takes it so. A long READ's
+/// buffer may be used again then.
+pub fn send_out<O: WriteChunks>(
     core: &mut SessionCore,
     sender: &mut ReplyWriter<O>,
 ) -> Result<(), ServeFault>
@@ -44,13 +45,13 @@ pub fn send_out<O: Write>(
     ensures err { IfErr result (λ fault. SendsPart fault core.old core.new
         (O.contents (device_of sender.old)) (O.contents (device_of sender.new))) }
 {
-    let bytes = core.take_out();
-    if bytes.is_empty() {
+    let (gathered, long) = core.take_out();
+    if gathered.len() + long.len() == 0 {
         return Ok(());
     }
-    match sender.send(bytes.as_slice()) {
+    match sender.send_chunks(gathered.as_slice(), long.as_slice()) {
         Ok(()) => {
-            core.keep_buffer(bytes);
+            core.keep_buffer(long);
             Ok(())
         }
         Err(SendFault::Device(sent)) => Err(ServeFault::Write(sent)),

@@ -4,15 +4,15 @@ ghost use Rattle.nm_replies.specs.Sending.{device_of};
 ghost use Rattle.nm_workers.specs.Results.{no_result};
 ghost use Rattle.nm_workers.specs.Serving.{io, Negotiates, Breaks};
 
-use nm_replies::ReplyWriter;
+use nm_replies::{ReplyWriter, WriteChunks};
 use nm_session::{End, Phase, ServeFault, Served, SessionCore, feed_piece, send_out};
 use std::alloc::Global;
-use std::io::{Read, Write};
+use std::io::Read;
 use std::sync::Wait;
 
 /// Haggles over the export, from the greeting until transmission begins, where it answers `None`,
 /// or the session ends, and sends all that is to go out.
-pub fn negotiate<R: Wait, I: Read, O: Write>(
+pub fn negotiate<R: Wait, I: Read, O: WriteChunks>(
     rt: &R,
     alloc: Global,
     core: &mut SessionCore,

@@ -15,17 +15,17 @@ ghost use Rattle.nm_workers.specs.Reading.{ReadsFurther, reader_of};
 
 use crate::dispatcher::{Dispatcher, hand_out};
 use crate::job::{Extent, JobResult};
-use crate::messages::{GATHERED, receive, settle};
+use crate::messages::{are_to_be_sent, receive, settle};
 use crate::pool::{WorkerPool, submit_deferred};
 use crate::read_buffer::ReadBuffer;
 use crate::read_by::{ReadBy, into_reader, permit_piece, read_piece_here, switch_reader};
 use crate::reader::Reader;
 use crate::round::{Lull, NoRequest, Owner, ReadState, Round};
 use crate::spin_wait::BusyPoll;
-use nm_replies::ReplyWriter;
+use nm_replies::{ReplyWriter, WriteChunks};
 use nm_session::{End, ServeFault, Served, SessionCore, Target, send_out};
 use std::alloc::Global;
-use std::io::{Read, Write};
+use std::io::Read;
 use std::sync::Wait;
 use std::thread::Threads;
 
@@ -48,7 +48,7 @@ where
     E: Extent + Send + 's,
     R: Threads + Wait + Sync + 's,
     I: BusyPoll + Send + Drop + 's,
-    O: Write,
+    O: WriteChunks,
     T: Target + Send + Drop + 's,
     requires size { size_of owner.old.core.haggling.export ≤ E.bytes }
     ensures ends { EndsAs (IsResult T.follows) result.result
@@ -124,7 +124,7 @@ where
     E: Extent + Send + 's,
     R: Threads + Wait + Sync + 's,
     I: BusyPoll,
-    O: Write,
+    O: WriteChunks,
     T: Target + Send + Drop + 's,
     requires size { size_of owner.old.core.haggling.export ≤ E.bytes }
     requires known { IsKnown state (received_by owner.old.inbox) }
@@ -135,7 +135,7 @@ where
     if wants_thread(by, dispatcher) {
         return Ok(Round::SwitchReader(state));
     }
-    if owner.core.waiting() >= GATHERED {
+    if are_to_be_sent(&owner.core) {
         return send_gathered(owner, state);
     }
     let why = hand_out(rt, alloc, &mut owner.core, &mut dispatcher.pool)?;
@@ -174,7 +174,7 @@ where
 }
 
 // Sends the replies that wait, and does nothing else.
-fn send_gathered<O: Write, T: Target + Drop>(
+fn send_gathered<O: WriteChunks, T: Target + Drop>(
     owner: &mut Owner<O, JobResult<T>>,
     state: ReadState,
 ) -> Result<Round, ServeFault>
@@ -235,7 +235,7 @@ fn over(core: &SessionCore, lull: Lull) -> Option<Served>
 }
 
 // Does the request that is deferred and sends its reply.
-fn do_deferred<S, E: Extent, O: Write, T: Target + Drop>(
+fn do_deferred<S, E: Extent, O: WriteChunks, T: Target + Drop>(
     alloc: Global,
     core: &mut SessionCore,
     sender: &mut ReplyWriter<O>,

@@ -16,12 +16,12 @@ use crate::requests::{AllServed, serve_requests};
 use crate::round::Owner;
 use crate::spin_wait::{BusyPoll, SpinToken, SpinWait, Unpolled};
 use nm_mailbox::mailbox;
-use nm_replies::ReplyWriter;
+use nm_replies::{ReplyWriter, WriteChunks};
 use nm_session::{Limit, ServeFault, Served, SessionCore, Target, laws};
 use nm_wire::Export;
 use nm_wire::sizes::MAX_PAYLOAD;
 use std::alloc::Global;
-use std::io::{Read, Write};
+use std::io::Read;
 use std::marker::Brand;
 use std::sync::Wait;
 use std::thread::{self, Threads};
@@ -62,7 +62,7 @@ pub fn serve_many<R, I, O, T>(
 where
     R: Threads + Wait + Sync,
     I: Read + Send + Drop,
-    O: Write + Drop,
+    O: WriteChunks + Drop,
     T: Target + Send + Drop,
     requires some { 1 ≤ vec_len targets }
     requires few { vec_len targets ≤ 16 }
@@ -96,7 +96,7 @@ fn serve_core<R, I, O, T>(
 where
     R: Threads + Wait + Sync,
     I: Read + Send + Drop,
-    O: Write + Drop,
+    O: WriteChunks + Drop,
     T: Target + Send + Drop,
     requires idle { core.outstanding ≡ [] }
     requires some { 1 ≤ vec_len targets }
@@ -145,7 +145,7 @@ pub fn transmit<R, I, O, T>(
 where
     R: Threads + Wait + Sync,
     I: BusyPoll + Send + Drop,
-    O: Write + Drop,
+    O: WriteChunks + Drop,
     T: Target + Send + Drop,
     requires size { All (λ target. size_of core.haggling.export ≤ T.size target) targets.items }
     ensures ends { Finishes (IsResult T.follows) O.contents core
@@ -168,7 +168,7 @@ where
     E: Extent + Send,
     R: Threads + Wait + Sync,
     I: BusyPoll + Send + Drop,
-    O: Write + Drop,
+    O: WriteChunks + Drop,
     T: Target + Send + Drop,
     requires size { size_of core.haggling.export ≤ E.bytes }
     requires sizes { All (λ target. E.bytes ≤ T.size target) targets.items }
@@ -230,7 +230,7 @@ where
     E: Extent + Send + 's,
     R: Threads + Wait + Sync + 's,
     I: BusyPoll + Send + Drop + 's,
-    O: Write + Drop,
+    O: WriteChunks + Drop,
     T: Target + Send + Drop + 's,
     requires size { size_of owner.core.haggling.export ≤ E.bytes }
     requires fresh { (pieces_by reader.pieces ≡ []) × (received_by owner.inbox ≡ []) }
