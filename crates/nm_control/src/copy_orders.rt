@@ -162,7 +162,7 @@ impl CopyOrders {
         requires { leg < mirror.now.shape.legs }
     {
         let returning = self.doubts.returning(leg);
-        mirror.attach_leg(rt, leg, returning, &self.doubts)
+        mirror.attach_leg(rt, &mut mirror.actor(), leg, returning, &self.doubts)
     }
 
     /// Takes the leg out of every stripe by hand, and counts what came of it: none while it is
@@ -177,7 +177,7 @@ impl CopyOrders {
     {
         let stayed_out = self.begin_move(rt, leg)?;
         self.doubts.note_taken_out(leg);
-        let counts = mirror.fail_leg(rt, leg);
+        let counts = mirror.fail_leg(rt, &mut mirror.actor(), leg);
         let stays_out = stayed_out || counts.failed > 0 || counts.out > 0;
         self.end_command(rt, leg, stays_out);
         Some(counts)
@@ -203,7 +203,7 @@ impl CopyOrders {
             return false;
         };
         if is_whole {
-            let _ = mirror.fail_leg(rt, leg);
+            let _ = mirror.fail_leg(rt, &mut mirror.actor(), leg);
         } else {
             mirror.spare_copies(rt, leg);
         }
@@ -327,7 +327,7 @@ impl CopyOrders {
     ) {
         let legs = mirror.legs();
         for leg in self.kept_of(legs)..legs {
-            let _ = mirror.fail_leg(rt, leg);
+            let _ = mirror.fail_leg(rt, &mut mirror.actor(), leg);
         }
     }
 

@@ -150,7 +150,7 @@ fn put_back<R: Wait, L: LegPart, G: Gate + Drop, J: Naming, N: RenewsLegs<L>>(
         Ok(parts) => parts,
         Err(why) => return Replaced::Unfit(why),
     };
-    match mirror.replace_leg(rt, leg, parts) {
+    match mirror.replace_leg(rt, &mut mirror.actor(), leg, parts) {
         Ok(counts) => Replaced::Done(counts),
         Err(_) => Replaced::Unfit(Unfit::WasCut),
     }

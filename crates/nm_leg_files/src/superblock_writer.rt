@@ -177,7 +177,7 @@ impl<S: SlotFile> SuperblockWriter<S> {
         if leg >= mirror.legs() {
             return false;
         }
-        let counts = mirror.fail_leg(rt, leg);
+        let counts = mirror.fail_leg(rt, &mut mirror.actor(), leg);
         if is_last_somewhere(&counts) {
             lines.alert(rt, self.last_line(leg));
             return false;
@@ -214,7 +214,7 @@ impl<S: SlotFile> SuperblockWriter<S> {
         status: &SaveStatus,
         ended: Option<[u64; 8]>,
     ) -> AfterTry {
-        let order = mirror.begin_save(rt);
+        let order = mirror.begin_save(rt, &mut mirror.actor());
         let (sets, marked, out) = (order.sets(), order.marked(), order.out());
         if self.has_failed_beside(&out) {
             self.files.read_failed_again();
@@ -230,7 +230,7 @@ impl<S: SlotFile> SuperblockWriter<S> {
         let tried = self.files.save(sets, marked, clean, &changed, &out);
         let after = after_try(&tried);
         if let Ok(saved) = tried {
-            mirror.end_save(rt, order, saved);
+            mirror.end_save(rt, &mut mirror.actor(), order, saved);
             status.end(self.files.image().generation);
         }
         after
@@ -252,7 +252,7 @@ impl<S: SlotFile> SuperblockWriter<S> {
                 _ => break,
             }
         }
-        mirror.fail_save(rt);
+        mirror.fail_save(rt, &mut mirror.actor());
         status.fail();
         let text = format!(in self.alloc;
             "no superblock can be written: the mirror is read-only from now on, until `reopen`"

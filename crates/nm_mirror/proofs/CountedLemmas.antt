@@ -2,9 +2,12 @@
 use Rattle.std.proofs.Common.{◌≡◌, ◌≢◌, ℕ, zero, suc, ◌+◌, ◌<◌, ◌≤◌, ◌==◌, ◌&&◌, Bool, true, false, cond, if◌then◌else◌, List, [], ◌∷◌, ◌⊎◌, inl, inr, refl, sym, ap, subst, ◌∙◌, arith, count_by, length, nat_le, slice_index_or}
 use Rattle.std.proofs.lemmas.Bool.Decides.{eqb_tells}
 use Rattle.std.proofs.lemmas.List.Sums.{sum_by-cons}
+use Rattle.nm_book.specs.Log.{PassView}
 use Rattle.nm_choice.specs.Choice.{is_in_sync}
 use Rattle.nm_choice.specs.declared.leg_state.LegState.{LegState}
 use Rattle.nm_choice.specs.declared.leg_state.LegState.TheVariants.{InSync, Joining, Out}
+use Rattle.nm_history.specs.declared.transition.Transition.{Transition}
+use Rattle.nm_leg.specs.Leg.{LegType}
 use Rattle.nm_rules.specs.Cause.{first_cause, when}
 use Rattle.nm_rules.specs.State.{StripeState, is_last, is_out, leg_state}
 use Rattle.nm_rules.specs.declared.refusal.Refusal.TheVariants.{AlreadyOut, LastLeg, Stopped}
@@ -79,13 +82,13 @@ stop-counted false false false true old = refl
 stop-counted false false false false old = refl
 
 -- where the leg was counted as the last somewhere, some stripe has it as the only one in sync
-pub last-of : (L : Type 0) (leg stripes : ℕ) (counts : FailCounts) → FailsEach L leg stripes counts → 0 < counts.last → (number : ℕ) × (number < stripes) × IsLastIn L leg number
-last-of L leg stripes counts each = elim each as (λ (n : ℕ) (c : FailCounts) _. 0 < c.last → (number : ℕ) × (number < n) × IsLastIn L leg number) [
+pub last-of : {L : Type 0} (type : LegType L) (leg stripes : ℕ) (first : PassView (Transition L)) (last : FailCounts × PassView (Transition L)) → FailsEach type leg stripes first last → 0 < last.0.last → (number : ℕ) × (number < stripes) × IsLastIn L leg number
+last-of {L} type leg stripes first last each = elim each as (λ (n : ℕ) (c : FailCounts × PassView (Transition L)) _. 0 < c.0.last → (number : ℕ) × (number < n) × IsLastIn L leg number) [
   | Start ↦ λ some. absurd (omega (arith, some))
   | OneMore number old new (before → known) step ↦ λ some.
-      let stripe = step.stripes.0 in
+      let stripe = step.held.0.stripe in
       let same = ap (λ (c : FailCounts). c.last) step.counts in
-      elim (last-counted stripe.stopped (nat_le (length stripe.legs) leg) (is_out (leg_state leg stripe)) (is_last leg stripe) old) [
+      elim (last-counted stripe.stopped (nat_le (length stripe.legs) leg) (is_out (leg_state leg stripe)) (is_last leg stripe) old.0) [
         | inl kept ↦
             let found = known (omega (arith, some, same, kept)) in
             (found.0, omega (arith, found.1), found.2)
@@ -102,16 +105,16 @@ last-of L leg stripes counts each = elim each as (λ (n : ℕ) (c : FailCounts) 
 ]
 
 -- the stripes that were counted as stopped had stopped
-pub stopped-of : (L : Type 0) (leg stripes : ℕ) (counts : FailCounts) → FailsEach L leg stripes counts → HaveStopped L stripes counts.stopped
-stopped-of L leg stripes counts each = elim each as (λ (n : ℕ) (c : FailCounts) _. HaveStopped L n c.stopped) [
+pub stopped-of : {L : Type 0} (type : LegType L) (leg stripes : ℕ) (first : PassView (Transition L)) (last : FailCounts × PassView (Transition L)) → FailsEach type leg stripes first last → HaveStopped L stripes last.0.stopped
+stopped-of {L} type leg stripes first last each = elim each as (λ (n : ℕ) (c : FailCounts × PassView (Transition L)) _. HaveStopped L n c.0.stopped) [
   | Start ↦ Start
   | OneMore number old new (before → known) step ↦
-      let stripe = step.stripes.0 in
-      OneMore number old.stopped new.stopped known (record {
+      let stripe = step.held.0.stripe in
+      OneMore number old.0.stopped new.0.stopped known (record {
         stripe = stripe;
         number_is = step.number_is;
         counts = ap (λ (c : FailCounts). c.stopped) step.counts
-            ∙ stop-counted stripe.stopped (nat_le (length stripe.legs) leg) (is_out (leg_state leg stripe)) (is_last leg stripe) old;
+            ∙ stop-counted stripe.stopped (nat_le (length stripe.legs) leg) (is_out (leg_state leg stripe)) (is_last leg stripe) old.0;
       })
 ]
 

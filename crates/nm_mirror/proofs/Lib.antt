@@ -1,3 +1,4 @@
+mod AttachLemmas
 mod ClaimingLemmas
 mod CountedLemmas
 mod EndingLemmas
@@ -19,6 +20,7 @@ mod OwnLooks
 mod Places
 mod PushedLemmas
 mod ReopenLemmas
+mod ReplaceLemmas
 mod RoundLemmas
 mod SaveLemmas
 mod StatusLemmas

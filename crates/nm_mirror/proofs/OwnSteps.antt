@@ -1,7 +1,12 @@
 -- What a stripe's method promises of a step that no pass counts is what the step promises of the answer that it stands for.
-use Rattle.std.proofs.Common.{◌≡◌, ℕ, Some, Result, Ok, Err, IfOk, IfErr, OnErr, refl}
+use Rattle.std.proofs.Common.{◌≡◌, ℕ, List, Some, Result, Ok, Err, IfOk, IfErr, OnErr, refl, ap, subst}
+use Rattle.nm_book.specs.Log.{PassView}
+use Rattle.nm_history.specs.declared.transition.Transition.{Transition}
+use Rattle.nm_history.specs.History.{LegalMoves}
 use Rattle.nm_leg.specs.Leg.{LegType}
 use Rattle.nm_lanes.specs.Answers.{answer_of_claim, lost_with_nothing, refused_with_nothing}
+use Rattle.nm_mirror.specs.OwnNotes.{answer_of_fail}
+use Rattle.nm_mirror.specs.Trail.{NotesAll}
 use Rattle.nm_rules.specs.declared.refusal.Refusal.{Refusal}
 use Rattle.nm_rules.specs.Failing.{fail_cause}
 use Rattle.nm_rules.specs.Promote.{promote_cause}
@@ -12,18 +17,14 @@ use Rattle.nm_stripe.specs.declared.answer.Answer.{Answer}
 use Rattle.nm_stripe.specs.declared.answer.Answer.TheVariants as answer
 use Rattle.nm_stripe.specs.declared.fail.Failing.{Failing}
 use Rattle.nm_stripe.specs.declared.fail.Failing.TheVariants as failing
+use Rattle.nm_stripe.specs.declared.step.Step.{Step}
 use Rattle.nm_stripe.specs.declared.step.Step.TheVariants.{Claim, Fail, Promote}
 use Rattle.nm_stripe.specs.declared.sync.Promotion.{Promotion}
 use Rattle.nm_stripe.specs.declared.sync.Promotion.TheVariants as promotion
 use Rattle.nm_stripe.specs.Fail.{Fails}
 use Rattle.nm_stripe.specs.Run.{StepOf}
+use Rattle.nm_stripe.proofs.RunLemmas.{step-shape}
 use Rattle.nm_stripe.specs.Sync.{EndsJoining}
-
--- the answer of a leg's taking out
-abbrev pub answer_of_fail : {L : Type 0} → Result Failing Refusal → Answer L
-answer_of_fail (Ok failing.Failed) = answer.Failed
-answer_of_fail (Ok (failing.MasterChanged master)) = answer.MasterChanged master
-answer_of_fail (Err refusal) = refused_with_nothing refusal
 
 -- the answer of a promotion
 abbrev pub answer_of_promote : {L : Type 0} → Result Promotion Refusal → Answer L
@@ -46,3 +47,9 @@ module _ {L : Type 0} (type : LegType L) (old new : StripeState L) where
   promote-step leg (Ok promotion.InSync) ok cause stays = ok
   promote-step leg (Ok (promotion.LegLost gone)) ok cause stays = (ok, refl)
   promote-step leg (Err refusal) ok cause stays = (cause, refl, stays)
+
+-- a step is noted among those of the stripe before it, too
+pub own-noted : {L : Type 0} (type : LegType L) (step : Step L) (answer : Answer L) (old new : StripeState L) (list : List (Transition L)) (before after : PassView (Transition L)) → StepOf type step answer old new
+    → NotesAll (LegalMoves type) new.place.stripe list before after → NotesAll (LegalMoves type) old.place.stripe list before after
+own-noted type step answer old new list before after does notes =
+    subst (λ (shard : ℕ). NotesAll (LegalMoves type) shard list before after) (ap (λ place. place.stripe) (step-shape type step answer old new does).place) notes

@@ -1,8 +1,8 @@
 -- One transition more in what is noted of a stripe.
-use Rattle.std.proofs.Common.{◌≡◌, ℕ, List, [], ◌∷◌, ◌++◌, Option, Some, append_assoc, refl, sym, ap, subst, ◌∙◌}
+use Rattle.std.proofs.Common.{◌≡◌, ℕ, List, [], ◌∷◌, ◌++◌, Option, None, Some, append_assoc, refl, sym, ap, subst, ◌∙◌}
 use Rattle.std.specs.Prelude.{IfSome}
 use Rattle.nm_book.specs.declared.rule.Entry.{Entry}
-use Rattle.nm_book.specs.Log.{KeeperView, NotesOn, PassView, entry, whats}
+use Rattle.nm_book.specs.Log.{KeeperView, NotesOn, PassView, entry, of_shard, whats}
 use Rattle.nm_book.proofs.Lists.{calls_own, whats_longer}
 use Rattle.nm_gate.specs.declared.gated_stripe.GatedStripe.{GatedStripe}
 use Rattle.nm_history.specs.declared.transition.Move.{Move}
@@ -13,6 +13,7 @@ use Rattle.nm_history.specs.Lost.{none_lost}
 use Rattle.nm_history.specs.Moves.{MoveOf}
 use Rattle.nm_history.proofs.Lists.{histories-go-on}
 use Rattle.nm_leg.specs.Leg.{LegType}
+use Rattle.nm_mirror.specs.JointHistory.{history_of}
 use Rattle.nm_mirror.specs.Trail.{HasHistory, NotesAll, entries, led_to}
 use Rattle.nm_rules.specs.Invariant.{Keeps}
 
@@ -50,6 +51,21 @@ module _ {L : Type 0} (type : LegType L) where
   keeper-ends o keeper is has =
       subst (λ (p : Option (KeeperView (Transition L))). IfSome (led_to p) (LeadsTo type keeper.shard (whats keeper.all))) (sym is)
       (leads-if-some keeper.shard (whats keeper.all) (subst (λ (p : Option (KeeperView (Transition L))). HasHistory type p) is has))
+
+  -- what holds of what is there implies what does
+  some-so : {A : Type 0} {P Q : A → Type 0} (o : Option A) → ((x : A) → P x → Q x) → IfSome o P → IfSome o Q
+  some-so None so is = is
+  some-so (Some x) so is = so x is
+
+  -- a keeper that has all entries of its shard leads where these do
+  pub keeper-looks : (o : Option (KeeperView (Transition L))) (keeper : KeeperView (Transition L)) (seen : List (Entry (Transition L))) → o ≡ Some keeper → HasHistory type o → keeper.all ≡ of_shard keeper.shard seen
+      → IfSome (led_to o) (λ now. LeadsTo type now.stripe.place.stripe (history_of now.stripe.place.stripe seen) now)
+  keeper-looks o keeper seen is has all =
+      some-so (led_to o)
+      (λ now leads. subst (λ (s : ℕ). LeadsTo type s (history_of s seen) now)
+      (sym ((histories-go-on type).number_is keeper.shard (whats keeper.all) now leads))
+      (subst (λ (entries : List (Entry (Transition L))). LeadsTo type keeper.shard (whats entries) now) all leads))
+      (keeper-ends o keeper is has)
 
   -- one more
   pub leads-on : (keeper : KeeperView (Transition L)) (from to : GatedStripe L) (made : Move L) → LeadsTo type keeper.shard (whats keeper.all) from → MoveOf type none_lost made from to → LeadsTo type keeper.shard (whats keeper.all ++ told made to ∷ []) to

@@ -1,12 +1,17 @@
 -- What one hold of each stripe counts, where a leg is taken out of all of them.
 use Rattle.std.specs.Prelude.{◌≡◌, ℕ, ◌+◌, nat_le, if◌then◌else◌}
 use Rattle.std.specs.Prelude.{◌∷◌, length, Option, None, IsSome}
+use Rattle.nm_book.specs.Log.{PassView}
+use Rattle.nm_gate.specs.declared.gated_stripe.GatedStripe.{GatedStripe}
+use Rattle.nm_history.specs.declared.transition.Transition.{Transition}
+use Rattle.nm_leg.specs.Leg.{LegType}
 use Rattle.nm_rules.specs.Cause.{first_cause, when}
 use Rattle.nm_rules.specs.Failing.{GoesOut, fail_rows}
 use Rattle.nm_rules.specs.State.{StripeState}
 use Rattle.nm_rules.specs.declared.refusal.Refusal.{Refusal}
 use Rattle.nm_rules.specs.declared.refusal.Refusal.TheVariants.{AlreadyOut, Stopped}
 use Rattle.nm_mirror.specs.Counts.{failed_so}
+use Rattle.nm_mirror.specs.OwnNotes.{NotesFail}
 use Rattle.nm_mirror.specs.declared.counts.FailCounts.{FailCounts}
 
 -- one hold of each of the first stripes, by rising number, counts so, from nothing on
@@ -23,21 +28,26 @@ fail_answer stripe leg = first_cause
     ∷ when (nat_le (length stripe.legs) leg) AlreadyOut
     ∷ fail_rows stripe leg)
 
--- in a hold of a stripe of this number the leg went out, or stays as it was: either is counted
-pub record FailsIn (L : Type 0) (leg number : ℕ) (old new : FailCounts) : Type 0 where
-  pub stripes : StripeState L × StripeState L
-  pub number_is : stripes.0.place.stripe ≡ number
-  pub counts : new ≡ failed_so (fail_answer stripes.0 leg) old
-  pub goes_out : fail_answer stripes.0 leg ≡ None → GoesOut stripes.0 stripes.1 leg
-  pub stays : IsSome (fail_answer stripes.0 leg) → stripes.1 ≡ stripes.0
+-- in a hold of a stripe of this number the leg went out, or stays as it was: either is counted,
+-- and the pass notes it
+pub record FailsIn {L : Type 0} (type : LegType L) (leg number : ℕ)
+    (old new : FailCounts × PassView (Transition L)) : Type 0 where
+  pub held : GatedStripe L × GatedStripe L
+  pub number_is : held.0.stripe.place.stripe ≡ number
+  pub counts : new.0 ≡ failed_so (fail_answer held.0.stripe leg) old.0
+  pub goes_out : fail_answer held.0.stripe leg ≡ None → GoesOut held.0.stripe held.1.stripe leg
+  pub stays : IsSome (fail_answer held.0.stripe leg) → held.1.stripe ≡ held.0.stripe
+  pub notes : NotesFail type leg held old.1 new.1
 
 -- nothing is counted yet
 abbrev pub no_fails : FailCounts
 no_fails = record { failed = 0; last = 0; out = 0; stopped = 0 }
 
--- each of so many stripes was held once, and the leg taken out where it could be: so it counts
-abbrev pub FailsEach : (L : Type 0) → ℕ → ℕ → FailCounts → Type 0
-FailsEach L leg stripes counts = CountsEach (FailsIn L leg) no_fails stripes counts
+-- each of so many stripes was held once, and the leg taken out where it could be: so it counts,
+-- and the pass that was so before notes each in turn
+abbrev pub FailsEach : {L : Type 0} → LegType L → (leg stripes : ℕ)
+    → (old : PassView (Transition L)) → FailCounts × PassView (Transition L) → Type 0
+FailsEach type leg stripes old new = CountsEach (FailsIn type leg) (no_fails, old) stripes new
 
 -- in a hold of a stripe of this number it is counted if it has stopped
 pub record CountsStopped (L : Type 0) (number old new : ℕ) : Type 0 where

@@ -1,4 +1,5 @@
 pub mod Asks
+pub mod Attached
 pub mod Claiming
 pub mod ClaimingLeft
 pub mod Closing
@@ -17,16 +18,19 @@ pub mod Marked
 pub mod MirrorFault
 pub mod Numbers
 pub mod Opening
+pub mod OwnNotes
 pub mod Passes
 pub mod Refused
 pub mod Reopening
 pub mod Repair
+pub mod Replaced
 pub mod Replacing
 pub mod Resync
 pub mod RoundChanges
 pub mod RoundInside
 pub mod SaveDesk
 pub mod Saves
+pub mod SavesNoted
 pub mod Saving
 pub mod Settling
 pub mod Status

@@ -5,7 +5,7 @@ ghost use Rattle.nm_gate.specs.Durable.{is_named};
 
 use crate::opening::only_bit;
 use crate::stripe_end::{Past, StripeEnd};
-use crate::trail::{Log, Opening, StripeKeeper, Trail};
+use crate::trail::{Log, LogPass, Opening, StripeKeeper, Trail};
 use crate::unclaimed::Unclaimed;
 use nm_book::Naming;
 use nm_gate::{DurableState, GatedStripe};
@@ -49,6 +49,7 @@ impl<L: LegPart, J: Naming> Held<L, J> {
     ghost use Rattle.nm_mirror.specs.Ending.{end_of_held};
     ghost use Rattle.nm_mirror.specs.Reopening.{GoesOn, NamesAtMost, Reopens};
     ghost use Rattle.nm_mirror.specs.Reopening.{no_past};
+    ghost use Rattle.nm_mirror.specs.Status.{OnlySees, SeesStripe};
     ghost use Rattle.nm_mirror.specs.declared.ask.Ask.TheVariants.{Answer};
     ghost use Rattle.nm_regions.specs.Sound.{AreSizes};
     ghost use Rattle.nm_resync.specs.Chunk.{IsChunkSize};
@@ -82,6 +83,16 @@ impl<L: LegPart, J: Naming> Held<L, J> {
         ensures { result ≡ end_of_held self.now }
     {
         StripeEnd::of(self.past, self.gated.stripe.end())
+    }
+
+    /// This pass looks at the log, where the stripe's entries lead to what is held.
+    pub(crate) fn look(&mut self, pass: &mut LogPass<L, J>)
+        ensures sees { SeesStripe (leg_type L.model L.honest)
+            self.old.gated.stripe.place.stripe pass.old pass.new self.old.gated }
+        ensures only { OnlySees pass.old pass.new }
+        ensures stays { self.new.gated ≡ self.old.gated }
+    {
+        self.trail.look(pass);
     }
 
     /// The keeper of the stripe's shard of the log, whose transitions lead to the stripe.

@@ -1,31 +1,30 @@
-//! Takes a leg out of every stripe, and lets it join again.
-ghost use Rattle.std.specs.Prelude.{◌≡◌, ◌+◌, ◌-◌, ◌^◌, ◌<◌, ◌≤◌, ◌↔◌, length, None};
-ghost use Rattle.std.specs.Prelude.{IfErr, IfOk, IfSome, IsSome, IsTrue, OnErr, OnOk, Some};
-ghost use Rattle.std.specs.Sync.Mutex.{mutex_guard_value};
-ghost use Rattle.nm_gate.specs.Returning.{suspects};
-ghost use Rattle.nm_mirror.specs.Asks.{LetsJoin};
-ghost use Rattle.nm_rules.specs.Attach.{Returns, attach_cause};
-ghost use Rattle.nm_rules.specs.Failing.{GoesOut, fail_cause};
-ghost use Rattle.nm_rules.specs.State.{left};
+//! Takes a leg out of every stripe.
+ghost use Rattle.std.specs.Prelude.{◌≡◌, ◌+◌, ◌-◌, ◌^◌, ◌<◌, length, None, IsSome};
+ghost use Rattle.nm_leg.specs.Leg.{leg_type};
 ghost use Rattle.nm_mirror.specs.Counted.{FailsEach, FailsIn, fail_answer};
+ghost use Rattle.nm_mirror.specs.Counts.{failed_so, fails};
 ghost use Rattle.nm_mirror.specs.Holding.{with_stripe};
-ghost use Rattle.nm_mirror.specs.Counts.{attached_so, attaches, failed_so, fails};
+ghost use Rattle.nm_mirror.specs.OwnNotes.{NotesFail};
+ghost use Rattle.nm_rules.specs.Failing.{GoesOut, fail_cause};
 
-use crate::ask::Ask;
-use crate::counts::{AttachCounts, FailCounts};
-use crate::doubts::{Doubts, Returning};
+use crate::counts::FailCounts;
 use crate::held::Held;
-use crate::lock::Lock;
 use crate::mirror::Mirror;
+use crate::trail::LogPass;
 use nm_book::Naming;
 use nm_geometry::MOST_LEGS;
 use nm_lanes::{CallKind, Gate, StepKind};
 use nm_leg::LegPart;
 use nm_stripe::{LegState, Refusal, Stripe};
-use std::sync::{MutexGuard, Wait};
+use std::sync::Wait;
 
 /// Takes the leg out of this stripe, and counts what came of it.
-fn fail_in<L: LegPart, J: Naming>(held: &mut Held<L, J>, leg: u8, counts: &mut FailCounts)
+fn fail_in<L: LegPart, J: Naming>(
+    held: &mut Held<L, J>,
+    pass: &mut LogPass<L, J>,
+    leg: u8,
+    counts: &mut FailCounts,
+)
     requires leg { leg < length held.old.gated.stripe.legs }
     requires room { fails counts.old < 2 ^ 64 - 1 }
     ensures counts { counts.new ≡ failed_so (fail_cause held.old.gated.stripe leg) counts.old }
@@ -35,8 +34,10 @@ fn fail_in<L: LegPart, J: Naming>(held: &mut Held<L, J>, leg: u8, counts: &mut F
     ensures stays { IsSome (fail_cause held.old.gated.stripe leg)
         → held.new.gated.stripe ≡ held.old.gated.stripe }
     ensures others { held.new ≡ with_stripe held.new.gated.stripe held.old }
+    ensures notes { NotesFail (leg_type L.model L.honest) leg (held.old.gated, held.new.gated)
+        pass.old pass.new }
 {
-    match held.fail_leg(leg) {
+    match held.fail_leg(pass, leg) {
         Ok(_) => counts.failed += 1,
         Err(Refusal::Stopped) => counts.stopped += 1,
         Err(Refusal::AlreadyOut) => counts.out += 1,
@@ -45,7 +46,12 @@ fn fail_in<L: LegPart, J: Naming>(held: &mut Held<L, J>, leg: u8, counts: &mut F
 }
 
 /// The same in a stripe that may have no such leg, which it tells as out.
-fn fail_if_there<L: LegPart, J: Naming>(held: &mut Held<L, J>, leg: u8, counts: &mut FailCounts)
+fn fail_if_there<L: LegPart, J: Naming>(
+    held: &mut Held<L, J>,
+    pass: &mut LogPass<L, J>,
+    leg: u8,
+    counts: &mut FailCounts,
+)
     requires room { fails counts.old < 2 ^ 64 - 1 }
     ensures counts { counts.new ≡ failed_so (fail_answer held.old.gated.stripe leg) counts.old }
     ensures one { fails counts.new ≡ fails counts.old + 1 }
@@ -54,72 +60,15 @@ fn fail_if_there<L: LegPart, J: Naming>(held: &mut Held<L, J>, leg: u8, counts: 
     ensures stays { IsSome (fail_answer held.old.gated.stripe leg)
         → held.new.gated.stripe ≡ held.old.gated.stripe }
     ensures others { held.new ≡ with_stripe held.new.gated.stripe held.old }
+    ensures notes { NotesFail (leg_type L.model L.honest) leg (held.old.gated, held.new.gated)
+        pass.old pass.new }
 {
     if (leg as usize) < held.gated.stripe.legs() {
-        fail_in(held, leg, counts);
+        fail_in(held, pass, leg, counts);
     } else if held.gated.stripe.is_stopped() {
         counts.stopped += 1;
     } else {
         counts.out += 1;
-    }
-}
-
-/// Lets the leg join this stripe again, as one that may have lost something. Refused as an attach
-/// is.
-fn return_to<L: LegPart, J: Naming>(held: &mut Held<L, J>, leg: u8) -> Result<u64, Refusal>
-    requires joins { LetsJoin held.old.gated.durable held.old.gated.stripe leg }
-    requires leg { leg < length held.old.gated.stripe.legs }
-    ensures ok { OnOk result (Returns L.model held.old.gated.stripe held.new.gated.stripe leg
-        (suspects leg held.old.gated.durable)) }
-    ensures left { IfOk result (λ blocks. blocks ≡ left leg held.new.gated.stripe) }
-    ensures cause { IfErr result (λ refusal.
-        attach_cause held.old.gated.stripe leg ≡ Some refusal) }
-    ensures stays { OnErr result (held.new.gated.stripe ≡ held.old.gated.stripe) }
-    ensures others { held.new ≡ with_stripe held.new.gated.stripe held.old }
-{
-    if held.gated.stripe.is_stopped() {
-        return Err(Refusal::Stopped);
-    }
-    if held.gated.stripe.state(leg) != LegState::Out {
-        return Err(Refusal::NotOut);
-    }
-    held.return_leg(leg)
-}
-
-/// The same, and counts what came of it.
-fn attach_in<L: LegPart, J: Naming>(held: &mut Held<L, J>, leg: u8, counts: &mut AttachCounts)
-    requires joins { LetsJoin held.old.gated.durable held.old.gated.stripe leg }
-    requires leg { leg < length held.old.gated.stripe.legs }
-    requires room { attaches counts.old < 2 ^ 64 - 1 }
-    ensures counts { counts.new ≡ attached_so (attach_cause held.old.gated.stripe leg)
-        (left leg held.new.gated.stripe) counts.old }
-    ensures one { attaches counts.new ≡ attaches counts.old + 1 }
-    ensures returns { attach_cause held.old.gated.stripe leg ≡ None
-        → Returns L.model held.old.gated.stripe held.new.gated.stripe leg
-        (suspects leg held.old.gated.durable) }
-    ensures stays { IsSome (attach_cause held.old.gated.stripe leg)
-        → held.new.gated.stripe ≡ held.old.gated.stripe }
-    ensures others { held.new ≡ with_stripe held.new.gated.stripe held.old }
-{
-    match return_to(held, leg) {
-        Ok(left) => {
-            counts.joining += 1;
-            counts.left = counts.left.saturating_add(left);
-        }
-        Err(Refusal::Stopped) => counts.stopped += 1,
-        Err(_) => counts.not_out += 1,
-    }
-}
-
-/// Counts a stripe in which the leg stays as it is.
-fn count_unchanged<L: LegPart>(stripe: &Stripe<L>, counts: &mut AttachCounts)
-    requires { attaches counts.old < 2 ^ 64 - 1 }
-    ensures { attaches counts.new ≡ attaches counts.old + 1 }
-{
-    if stripe.is_stopped() {
-        counts.stopped += 1;
-    } else {
-        counts.not_out += 1;
     }
 }
 
@@ -142,57 +91,14 @@ fn spoils_copies<L: LegPart>(stripe: &Stripe<L>, leg: u8) -> bool
     false
 }
 
-/// Takes the stripe's master out where it is in doubt and not the last in sync, if the leg joins:
-/// nothing is to be copied to it from there.
-fn drop_doubted_master<L: LegPart, J: Naming, D: Doubts>(held: &mut Held<L, J>, leg: u8, doubts: &D)
-    ensures others { held.new ≡ with_stripe held.new.gated.stripe held.old }
-{
-    if (leg as usize) >= held.gated.stripe.legs()
-        || held.gated.stripe.state(leg) != LegState::Joining
-    {
-        return;
-    }
-    let master = held.gated.stripe.master();
-    if doubts.is_doubted(master) {
-        let _ = held.fail_leg(master);
-    }
-}
-
-/// Whether the leg may join the stripe: it is out, and the stripe runs.
-fn may_join<L: LegPart>(stripe: &Stripe<L>, leg: u8) -> bool
-    ensures { IsTrue result
-        ↔ (leg < length stripe.now.legs) × (attach_cause stripe.now leg ≡ None) }
-{
-    (leg as usize) < stripe.legs() && !stripe.is_stopped() && stripe.state(leg) == LegState::Out
-}
-
-/// Takes the stripe for an attach of the leg. It waits for no superblock where the leg does not
-/// join, since each may go on calling it in sync.
-fn hold_to_attach<'x, L: LegPart, J: Naming, R: Wait>(
-    lock: &'x Lock<L, J>,
-    rt: &R,
-    leg: u8,
-) -> Option<MutexGuard<'x, Held<L, J>>>
-    ensures joins { IfSome result (λ guard. LetsJoin (mutex_guard_value guard).gated.durable
-        (mutex_guard_value guard).gated.stripe leg) }
-    ensures number { IfSome result (λ guard.
-        (mutex_guard_value guard).gated.stripe.place.stripe ≡ lock.now.number) }
-{
-    let held = lock.hold(rt);
-    if !may_join(&held.gated.stripe, leg) {
-        return Some(held);
-    }
-    drop(held);
-    lock.hold_for(rt, Ask::Attach(leg))
-}
-
 impl<L: LegPart, G: Gate + Drop, J: Naming> Mirror<L, G, J> {
     /// Takes the leg out of every stripe, and counts what came of it. It waits for no superblock,
-    /// but wants the loss to be saved.
-    pub fn fail_leg<R: Wait>(&self, rt: &R, leg: u8) -> FailCounts
+    /// but wants the loss to be saved. This pass notes each.
+    pub fn fail_leg<R: Wait>(&self, rt: &R, pass: &mut LogPass<L, J>, leg: u8) -> FailCounts
         requires { leg < self.now.shape.legs }
         ensures all { fails result ≡ self.now.shape.stripes }
-        ensures each { FailsEach L leg self.now.shape.stripes result }
+        ensures each { FailsEach (leg_type L.model L.honest) leg self.now.shape.stripes
+            pass.old (result, pass.new) }
     {
         let mut counts = FailCounts {
             failed: 0,
@@ -201,7 +107,7 @@ impl<L: LegPart, G: Gate + Drop, J: Naming> Mirror<L, G, J> {
             stopped: 0,
         };
         for stripe in 0..self.shape.stripes {
-            self.fail_one(rt, stripe, leg, &mut counts);
+            self.fail_one(rt, pass, stripe, leg, &mut counts);
             self.pass_gate(CallKind::FailLeg, stripe, StepKind::Fail);
         }
         self.want_save(rt);
@@ -209,14 +115,22 @@ impl<L: LegPart, G: Gate + Drop, J: Naming> Mirror<L, G, J> {
     }
 
     /// Takes the leg out of the stripe of this number, and counts what came of it.
-    fn fail_one<R: Wait>(&self, rt: &R, stripe: u32, leg: u8, counts: &mut FailCounts)
+    fn fail_one<R: Wait>(
+        &self,
+        rt: &R,
+        pass: &mut LogPass<L, J>,
+        stripe: u32,
+        leg: u8,
+        counts: &mut FailCounts,
+    )
         requires stripe { stripe < self.now.shape.stripes }
         requires room { fails counts.old < 2 ^ 64 - 1 }
         ensures one { fails counts.new ≡ fails counts.old + 1 }
-        ensures counts { FailsIn L leg stripe counts.old counts.new }
+        ensures counts { FailsIn (leg_type L.model L.honest) leg stripe
+            (counts.old, pass.old) (counts.new, pass.new) }
     {
         let mut held = self.hold(rt, stripe);
-        fail_if_there(&mut held, leg, counts);
+        fail_if_there(&mut held, pass, leg, counts);
     }
 
     /// Takes the leg out of each stripe in which it joins, or from which others are copied that
@@ -227,76 +141,10 @@ impl<L: LegPart, G: Gate + Drop, J: Naming> Mirror<L, G, J> {
             let mut held = lock.hold(rt);
             let there = (leg as usize) < held.gated.stripe.legs();
             if there && spoils_copies(&held.gated.stripe, leg) {
-                let _ = held.fail_leg(leg);
+                let mut pass = held.trail.pass();
+                let _ = held.fail_leg(&mut pass, leg);
             }
         }
         self.want_save(rt);
-    }
-
-    /// How an attach of the leg counts, where it is out in no stripe: none where it is out in one.
-    fn count_attached<R: Wait>(&self, rt: &R, leg: u8) -> Option<AttachCounts>
-        ensures { IfSome result (λ counts. attaches counts ≡ self.now.shape.stripes) }
-    {
-        let mut counts = AttachCounts::default();
-        for stripe in 0..self.shape.stripes {
-            let held = self.hold(rt, stripe);
-            if may_join(&held.gated.stripe, leg) {
-                return None;
-            }
-            count_unchanged(&held.gated.stripe, &mut counts);
-        }
-        Some(counts)
-    }
-
-    /// Lets the leg join each stripe again in which it is out, and counts what came of it. Where a
-    /// superblock may still call it in sync there, it waits for the next one. Nothing is copied to
-    /// it from a master in doubt that is not the last in sync.
-    fn return_leg<R: Wait, D: Doubts>(&self, rt: &R, leg: u8, doubts: &D) -> AttachCounts
-        ensures { attaches result ≡ self.now.shape.stripes }
-    {
-        let mut counts = AttachCounts::default();
-        for stripe in 0..self.shape.stripes {
-            match hold_to_attach(self.lock_of(stripe), rt, leg) {
-                Some(mut held) => {
-                    if (leg as usize) < held.gated.stripe.legs() {
-                        attach_in(&mut held, leg, &mut counts);
-                        drop_doubted_master(&mut held, leg, doubts);
-                    } else {
-                        count_unchanged(&held.gated.stripe, &mut counts);
-                    }
-                }
-                None => counts.stopped += 1,
-            }
-            self.pass_gate(CallKind::AttachLeg, stripe, StepKind::Attach);
-        }
-        counts
-    }
-
-    /// Lets the leg join every stripe again, and counts what came of it; nothing is done where it
-    /// is out in none of them. It may have lost what it was not synced for, and is copied that too.
-    ///
-    /// Where it may have lost something in any stripe, it is first taken out of each in which it is
-    /// not the last in sync. Only then the doubts about it are forgotten, and it joins the first of
-    /// them. A stripe for which no superblock can be saved counts as stopped.
-    pub fn attach_leg<R: Wait, D: Doubts>(
-        &self,
-        rt: &R,
-        leg: u8,
-        returning: Returning,
-        doubts: &D,
-    ) -> AttachCounts
-        requires { leg < self.now.shape.legs }
-        ensures { attaches result ≡ self.now.shape.stripes }
-    {
-        if let Some(counts) = self.count_attached(rt, leg) {
-            return counts;
-        }
-        if returning == Returning::Everywhere {
-            let _ = self.fail_leg(rt, leg);
-        }
-        doubts.forget(leg, returning);
-        let counts = self.return_leg(rt, leg, doubts);
-        self.want_save(rt);
-        counts
     }
 }

@@ -36,10 +36,11 @@ pub use sight::Sight;
 pub use status::{LegStatus, StripeStatus};
 pub use stripe_end::{Past, StripeEnd};
 pub use totals::Totals;
-pub use trail::{EmptyLog, OpenedLog, open_log};
+pub use trail::{EmptyLog, LogPass, OpenedLog, open_log};
 
 mod ask;
 mod astray;
+mod attaching;
 mod bounds;
 mod calls;
 mod claiming;

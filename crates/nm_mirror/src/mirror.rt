@@ -1,4 +1,4 @@
-ghost use Rattle.std.specs.Prelude.{◌≡◌, ◌<◌, length, map, IfOk, IfErr};
+ghost use Rattle.std.specs.Prelude.{◌≡◌, ◌<◌, [], length, map, IfOk, IfErr};
 ghost use Rattle.nm_book.specs.Log.{shard_of};
 ghost use Rattle.std.specs.Sync.Mutex.{mutex_guard_value};
 ghost use Rattle.std.specs.Vec.{vec_len};
@@ -8,7 +8,7 @@ ghost use Rattle.nm_mirror.specs.Stripes.{AreStripesOf};
 use crate::held::Held;
 use crate::lock::{Beside, Lock};
 use crate::save_desk::SaveDesk;
-use crate::trail::{EmptyLog, Log, StripeKeepers};
+use crate::trail::{EmptyLog, Log, LogPass, StripeKeepers};
 use nm_book::Naming;
 use nm_gate::GatedStripe;
 use nm_geometry::Shape;
@@ -177,6 +177,13 @@ impl<L: LegPart, G: Gate + Drop, J: Naming> Mirror<L, G, J> {
         ensures { (mutex_guard_value result).gated.stripe.place.stripe ≡ stripe }
     {
         self.lock_of(stripe).hold(rt)
+    }
+
+    /// A new pass through the log, for one who looks at the stripes or does what no client asks for.
+    pub fn actor(&self) -> LogPass<L, J>
+        ensures { result.mine ≡ [] }
+    {
+        self.book.pass()
     }
 
     /// How the mirror's blocks lie in its stripes.

@@ -7,10 +7,13 @@ ghost use Rattle.nm_gate.specs.Claims.{HasMarks};
 ghost use Rattle.nm_gate.specs.Gate.{IsAllowed};
 ghost use Rattle.nm_gate.specs.Returning.{suspects};
 ghost use Rattle.nm_gate.specs.Settling.{MayClear};
+ghost use Rattle.nm_history.specs.Telling.{answer_of_return};
 ghost use Rattle.nm_leg.specs.Leg.{leg_type};
 ghost use Rattle.nm_mirror.specs.Asks.{LetsPass};
 ghost use Rattle.nm_mirror.specs.Holding.{with_gated, with_stripe};
+ghost use Rattle.nm_mirror.specs.OwnNotes.{NotesReplace, NotesStep, answer_of_fail};
 ghost use Rattle.nm_mirror.specs.Saving.{BeginsAt, EndsAt, FailsAt, claims_in};
+ghost use Rattle.nm_mirror.specs.SavesNoted.{NotesSave};
 ghost use Rattle.nm_mirror.specs.declared.ask.Ask.TheVariants as ask;
 ghost use Rattle.nm_rules.specs.Attach.{Replaces, Returns, attach_cause};
 ghost use Rattle.nm_rules.specs.Failing.{fail_cause};
@@ -27,7 +30,7 @@ ghost use Rattle.nm_stripe.specs.declared.step.Step.TheVariants as step;
 
 use crate::held::Held;
 use crate::save_order::SaveOrder;
-use crate::trail::{Clearing, Plans};
+use crate::trail::{Clearing, LogPass, Plans};
 use nm_book::Naming;
 use nm_gate::LegClaims;
 use nm_leg::LegPart;
@@ -122,22 +125,24 @@ impl<L: LegPart, J: Naming> Held<L, J> {
     }
 
     /// Takes a leg out.
-    pub(crate) fn fail_leg(&mut self, leg: u8) -> Result<Failing, Refusal>
+    pub(crate) fn fail_leg(&mut self, pass: &mut LogPass<L, J>, leg: u8) -> Result<Failing, Refusal>
         requires leg { leg < length self.old.gated.stripe.legs }
         ensures ok { IfOk result (Fails self.old.gated.stripe self.new.gated.stripe leg) }
         ensures cause { IfErr result (λ refusal.
             fail_cause self.old.gated.stripe leg ≡ Some refusal) }
         ensures stays { OnErr result (self.new ≡ self.old) }
         ensures others { self.new ≡ with_stripe self.new.gated.stripe self.old }
+        ensures notes { NotesStep (leg_type L.model L.honest) (step.Fail leg)
+            (answer_of_fail result) (self.old.gated, self.new.gated) pass.old pass.new }
     {
         let failing = self.gated.stripe.fail(leg);
         self.trail
-            .note_own::<Brand, _>(&self.gated, &(leg, &failing));
+            .note_made::<Brand, _>(pass, &self.gated, &(leg, &failing));
         failing
     }
 
     /// Lets a leg join again, as one that may have lost something.
-    pub(crate) fn return_leg(&mut self, leg: u8) -> Result<u64, Refusal>
+    pub(crate) fn return_leg(&mut self, pass: &mut LogPass<L, J>, leg: u8) -> Result<u64, Refusal>
         requires allowed { IsAllowed self.old.gated.durable self.old.gated.stripe
             (step.Attach leg) }
         requires leg { leg < length self.old.gated.stripe.legs }
@@ -148,15 +153,23 @@ impl<L: LegPart, J: Naming> Held<L, J> {
             attach_cause self.old.gated.stripe leg ≡ Some refusal) }
         ensures stays { OnErr result (self.new.gated.stripe ≡ self.old.gated.stripe) }
         ensures others { self.new ≡ with_stripe self.new.gated.stripe self.old }
+        ensures notes { NotesStep (leg_type L.model L.honest)
+            (step.Return leg (suspects leg self.old.gated.durable)) (answer_of_return result)
+            (self.old.gated, self.new.gated) pass.old pass.new }
     {
         let returned = self.gated.return_leg(leg);
         self.trail
-            .note_own::<Brand, _>(&self.gated, &(leg, &returned));
+            .note_made::<Brand, _>(pass, &self.gated, &(leg, &returned));
         returned
     }
 
     /// Puts another leg in the place of one that is out.
-    pub(crate) fn replace_leg(&mut self, leg: u8, part: L) -> Result<u64, (Refusal, L)>
+    pub(crate) fn replace_leg(
+        &mut self,
+        pass: &mut LogPass<L, J>,
+        leg: u8,
+        part: L,
+    ) -> Result<u64, (Refusal, L)>
         requires passes { LetsPass self.old.gated.durable self.old.gated.stripe (ask.Replace leg) }
         requires leg { leg < length self.old.gated.stripe.legs }
         requires length { length (L.model part).contents ≡ self.old.gated.stripe.place.blocks }
@@ -166,12 +179,19 @@ impl<L: LegPart, J: Naming> Held<L, J> {
             attach_cause self.old.gated.stripe leg ≡ Some refused.0) }
         ensures stays { OnErr result (self.new ≡ self.old) }
         ensures others { self.new ≡ with_stripe self.new.gated.stripe self.old }
+        ensures notes { NotesReplace (leg_type L.model L.honest) leg part
+            (self.old.gated, self.new.gated) pass.old pass.new }
     {
-        self.replace_leg_as::<Brand>(leg, part)
+        self.replace_leg_as::<Brand>(pass, leg, part)
     }
 
     // The same, told as this step. One that is refused changes nothing, and is not noted.
-    fn replace_leg_as<S: Plans<L>>(&mut self, leg: u8, part: L) -> Result<u64, (Refusal, L)>
+    fn replace_leg_as<S: Plans<L>>(
+        &mut self,
+        pass: &mut LogPass<L, J>,
+        leg: u8,
+        part: L,
+    ) -> Result<u64, (Refusal, L)>
         requires told { S.step ≡ step.Replace leg part }
         requires passes { LetsPass self.old.gated.durable self.old.gated.stripe (ask.Replace leg) }
         requires leg { leg < length self.old.gated.stripe.legs }
@@ -182,16 +202,19 @@ impl<L: LegPart, J: Naming> Held<L, J> {
             attach_cause self.old.gated.stripe leg ≡ Some refused.0) }
         ensures stays { OnErr result (self.new ≡ self.old) }
         ensures others { self.new ≡ with_stripe self.new.gated.stripe self.old }
+        ensures notes { NotesReplace (leg_type L.model L.honest) leg part
+            (self.old.gated, self.new.gated) pass.old pass.new }
     {
         let replaced = self.gated.stripe.replace(leg, part);
         if replaced.is_ok() {
-            self.trail.note_own::<Brand, _>(&self.gated, &replaced);
+            self.trail
+                .note_made::<Brand, _>(pass, &self.gated, &replaced);
         }
         replaced
     }
 
     /// Begins a save with these marks: what the next superblock says of the legs.
-    pub(crate) fn begin_save(&mut self, marked: &[bool]) -> LegClaims
+    pub(crate) fn begin_save(&mut self, pass: &mut LogPass<L, J>, marked: &[bool]) -> LegClaims
         requires marks { HasMarks self.old.gated.durable marked.now }
         ensures claims { result
             ≡ claims_in self.old.gated.stripe self.old.gated.durable marked.now }
@@ -200,38 +223,41 @@ impl<L: LegPart, J: Naming> Held<L, J> {
             self.old.gated.stripe self.old.gated.durable
             self.new.gated.stripe self.new.gated.durable }
         ensures others { self.new ≡ with_gated self.new.gated self.old }
+        ensures notes { NotesSave (leg_type L.model L.honest) self.new.gated pass.old pass.new }
     {
         self.gated.stripe.keeps();
         let claims = self.gated.begin_save(marked);
-        self.trail.note_save(&self.gated);
+        self.trail.note_save(pass, &self.gated);
         claims
     }
 
     /// Ends a save: this order's superblock is the durable one.
-    pub(crate) fn end_save(&mut self, order: &SaveOrder)
+    pub(crate) fn end_save(&mut self, pass: &mut LogPass<L, J>, order: &SaveOrder)
         requires { self.old.gated.stripe.place.stripe < 64 }
         ensures ends { EndsAt order.now self.old.gated self.new.gated }
         ensures moves { HasLegs L.model self.old.gated.stripe → Leads (leg_type L.model L.honest)
             self.old.gated.stripe self.old.gated.durable
             self.new.gated.stripe self.new.gated.durable }
         ensures others { self.new ≡ with_gated self.new.gated self.old }
+        ensures notes { NotesSave (leg_type L.model L.honest) self.new.gated pass.old pass.new }
     {
         self.gated.stripe.keeps();
         let claims = order.claims_on(self.gated.stripe.number());
         self.gated.end_save(claims, &order.spans);
-        self.trail.note_save(&self.gated);
+        self.trail.note_save(pass, &self.gated);
     }
 
     /// Says that a save could not be done.
-    pub(crate) fn fail_save(&mut self)
+    pub(crate) fn fail_save(&mut self, pass: &mut LogPass<L, J>)
         ensures fails { FailsAt self.old.gated self.new.gated }
         ensures moves { Leads (leg_type L.model L.honest)
             self.old.gated.stripe self.old.gated.durable
             self.new.gated.stripe self.new.gated.durable }
         ensures others { self.new ≡ with_gated self.new.gated self.old }
+        ensures notes { NotesSave (leg_type L.model L.honest) self.new.gated pass.old pass.new }
     {
         self.gated.fail_save();
-        self.trail.note_save(&self.gated);
+        self.trail.note_save(pass, &self.gated);
     }
 
     /// Clears all marks, once each leg was synced since they might be cleared so.

@@ -7,7 +7,10 @@ ghost use Rattle.nm_rules.specs.Attach.{Replaces, attach_cause};
 ghost use Rattle.nm_rules.specs.State.{left, leg_state};
 ghost use Rattle.nm_mirror.specs.Asks.{LetsPass};
 ghost use Rattle.nm_mirror.specs.Counts.{replaced_so, replaces};
+ghost use Rattle.nm_leg.specs.Leg.{leg_type};
 ghost use Rattle.nm_mirror.specs.Holding.{with_stripe};
+ghost use Rattle.nm_mirror.specs.OwnNotes.{NotesReplace};
+ghost use Rattle.nm_mirror.specs.Replaced.{ReplacesEach, ReplacesIn};
 ghost use Rattle.nm_mirror.specs.Replacing.{EndsWithdrawal, IsOnlyOne, IsWithdrawn};
 ghost use Rattle.nm_mirror.specs.declared.ask.Ask.TheVariants as ask;
 
@@ -15,6 +18,7 @@ use crate::ask::Ask;
 use crate::counts::ReplaceCounts;
 use crate::held::Held;
 use crate::mirror::Mirror;
+use crate::trail::LogPass;
 use nm_book::Naming;
 use nm_lanes::{CallKind, Gate, StepKind};
 use nm_leg::LegPart;
@@ -74,6 +78,7 @@ fn is_gone<L: LegPart>(stripe: &Stripe<L>, leg: u8) -> bool
 /// the leg is out, and counts what came of it.
 fn replace_in<L: LegPart, J: Naming>(
     held: &mut Held<L, J>,
+    pass: &mut LogPass<L, J>,
     leg: u8,
     part: L,
     counts: &mut ReplaceCounts,
@@ -91,8 +96,10 @@ fn replace_in<L: LegPart, J: Naming>(
     ensures stays { IsSome (attach_cause held.old.gated.stripe leg)
         → held.new.gated.stripe ≡ held.old.gated.stripe }
     ensures others { held.new ≡ with_stripe held.new.gated.stripe held.old }
+    ensures notes { NotesReplace (leg_type L.model L.honest) leg part
+        (held.old.gated, held.new.gated) pass.old pass.new }
 {
-    match held.replace_leg(leg, part) {
+    match held.replace_leg(pass, leg, part) {
         Ok(left) => {
             counts.joining += 1;
             counts.left = counts.left.saturating_add(left);
@@ -128,7 +135,7 @@ impl<L: LegPart, G: Gate + Drop, J: Naming> Mirror<L, G, J> {
         requires { leg < self.now.shape.legs }
         ensures { IfSome result (EndsWithdrawal L leg self.now.shape.stripes) }
     {
-        let counts = self.fail_leg(rt, leg);
+        let counts = self.fail_leg(rt, &mut self.actor(), leg);
         if counts.last > 0 {
             return Some(Withdrawal::Last);
         }
@@ -193,30 +200,38 @@ impl<L: LegPart, G: Gate + Drop, J: Naming> Mirror<L, G, J> {
     /// Nobody attaches the old one meanwhile: where somebody does, it stays.
     ///
     /// Where there are more or fewer legs than stripes they come back, and nothing is done. One
-    /// that is not as long as its stripe does not join it: the old one stays out.
+    /// that is not as long as its stripe does not join it: the old one stays out. This pass notes
+    /// each that joins.
     pub fn replace_leg<R: Wait>(
         &self,
         rt: &R,
+        pass: &mut LogPass<L, J>,
         leg: u8,
         parts: Vec<L>,
     ) -> Result<ReplaceCounts, Vec<L>>
         requires { leg < self.now.shape.legs }
         ensures all { OnOk result (length parts.items ≡ self.now.shape.stripes) }
         ensures counted { IfOk result (λ counts. replaces counts ≡ self.now.shape.stripes) }
+        ensures each { IfOk result (λ counts. ReplacesEach (leg_type L.model L.honest) leg
+            parts.items self.now.shape.stripes pass.old (counts, pass.new)) }
         ensures handed_back { IfErr result (λ back. (back.items ≡ parts.items)
             × (length parts.items ≢ self.now.shape.stripes)) }
     {
         if parts.len() != self.shape.stripes as usize {
             return Err(parts);
         }
-        let mut counts = ReplaceCounts::default();
+        let mut counts = ReplaceCounts {
+            joining: 0,
+            left: 0,
+            out: 0,
+            not_out: 0,
+            stopped: 0,
+        };
         let mut rest = parts;
         rest.reverse();
         for stripe in 0..self.shape.stripes {
-            match rest.pop() {
-                Some(part) => self.replace_part(rt, stripe, leg, part, &mut counts),
-                None => counts.out += 1,
-            }
+            let part = rest.pop().unwrap();
+            self.replace_part(rt, pass, stripe, leg, part, &mut counts);
             self.pass_gate(CallKind::AttachLeg, stripe, StepKind::Replace);
         }
         self.want_save(rt);
@@ -227,6 +242,7 @@ impl<L: LegPart, G: Gate + Drop, J: Naming> Mirror<L, G, J> {
     fn replace_part<R: Wait>(
         &self,
         rt: &R,
+        pass: &mut LogPass<L, J>,
         stripe: u32,
         leg: u8,
         part: L,
@@ -234,18 +250,22 @@ impl<L: LegPart, G: Gate + Drop, J: Naming> Mirror<L, G, J> {
     )
         requires stripe { stripe < self.now.shape.stripes }
         requires room { replaces counts.old < 2 ^ 64 - 1 }
-        ensures { replaces counts.new ≡ replaces counts.old + 1 }
+        ensures one { replaces counts.new ≡ replaces counts.old + 1 }
+        ensures counts { ReplacesIn (leg_type L.model L.honest) leg part stripe
+            (counts.old, pass.old) (counts.new, pass.new) }
     {
         let Some(mut held) = self.lock_of(stripe).hold_for(rt, Ask::Replace(leg)) else {
             counts.out += 1;
             return;
         };
-        let fits = (leg as usize) < held.gated.stripe.legs()
-            && part.len() == held.gated.stripe.blocks();
-        if fits {
-            replace_in(&mut held, leg, part, counts);
-        } else {
+        if (leg as usize) >= held.gated.stripe.legs() {
             counts.out += 1;
+            return;
         }
+        if part.len() != held.gated.stripe.blocks() {
+            counts.out += 1;
+            return;
+        }
+        replace_in(&mut held, pass, leg, part, counts);
     }
 }

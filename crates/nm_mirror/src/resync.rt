@@ -151,7 +151,8 @@ fn drop_doubted<L: LegPart, J: Naming, D: Doubts>(
     ensures others { held.new ≡ with_stripe held.new.gated.stripe held.old }
 {
     if matches!(tried, Tried::Promoted(Ok(Promotion::InSync))) && doubts.is_doubted(leg) {
-        let _ = held.fail_leg(leg);
+        let mut pass = held.trail.pass();
+        let _ = held.fail_leg(&mut pass, leg);
     }
 }
 

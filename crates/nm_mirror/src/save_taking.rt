@@ -6,12 +6,14 @@ ghost use Rattle.nm_leg.specs.Leg.{leg_type};
 ghost use Rattle.nm_mirror.specs.Holding.{with_gated};
 ghost use Rattle.nm_mirror.specs.Saves.{IsJoined};
 ghost use Rattle.nm_mirror.specs.Saving.{BeginsAt, KeepsOut, Takes};
+ghost use Rattle.nm_mirror.specs.SavesNoted.{NotesSave};
 ghost use Rattle.nm_rules.specs.Invariant.{HasLegs};
 
 use crate::held::Held;
 use crate::save_desk::MOST_SPANS;
 use crate::save_order::MOST_STRIPES;
 use crate::settling::at_work;
+use crate::trail::LogPass;
 use crate::whole::called_whole;
 use nm_book::Naming;
 use nm_gate::LegClaims;
@@ -62,7 +64,12 @@ impl Taken {
 
     /// Begins a save in this stripe, and takes from it what the next superblock says of it, which
     /// calls these legs partial no more.
-    pub(crate) fn take<L: LegPart, J: Naming>(&mut self, held: &mut Held<L, J>, whole: &LegSet)
+    pub(crate) fn take<L: LegPart, J: Naming>(
+        &mut self,
+        held: &mut Held<L, J>,
+        pass: &mut LogPass<L, J>,
+        whole: &LegSet,
+    )
         requires { held.old.gated.stripe.place.stripe < 64 }
         ensures takes { Takes held.old.gated whole.now self.old self.new }
         ensures begins { BeginsAt self.new.spans held.old.gated held.new.gated }
@@ -70,11 +77,12 @@ impl Taken {
             held.old.gated.stripe held.old.gated.durable
             held.new.gated.stripe held.new.gated.durable }
         ensures others { held.new ≡ with_gated held.new.gated held.old }
+        ensures notes { NotesSave (leg_type L.model L.honest) held.new.gated pass.old pass.new }
     {
         join_marks(&mut self.spans, held.gated.marks());
         let number = held.gated.stripe.number() as usize;
         self.out = kept_out(&held.gated.stripe, &self.out);
-        let claims = held.begin_save(&self.spans);
+        let claims = held.begin_save(pass, &self.spans);
         self.claims[number] = called_whole(&claims, whole);
     }
 }

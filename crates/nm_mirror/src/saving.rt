@@ -1,13 +1,16 @@
 //! Saves: what the next superblock says is taken from the stripes, and they are told once it is
 //! durable.
-ghost use Rattle.std.specs.Prelude.{◌≡◌};
-ghost use Rattle.nm_mirror.specs.Saving.{AreAmong, IsTaken, taken_for};
+ghost use Rattle.std.specs.Prelude.{◌≡◌, ◌<◌};
+ghost use Rattle.nm_leg.specs.Leg.{leg_type};
+ghost use Rattle.nm_mirror.specs.Saving.{AreAmong, BeginsSo, EndsAt, FailsAt, IsTaken, taken_for};
+ghost use Rattle.nm_mirror.specs.SavesNoted.{SavesEach, SavesIn};
 
 use crate::bounds::within_bounds;
 use crate::mirror::Mirror;
 use crate::save_desk::{MOST_SPANS, Wanted};
 use crate::save_order::SaveOrder;
 use crate::save_taking::{Taken, join_marks};
+use crate::trail::LogPass;
 use nm_book::Naming;
 use nm_geometry::LegSet;
 use nm_lanes::Gate;
@@ -84,70 +87,109 @@ impl<L: LegPart, G: Gate + Drop, J: Naming> Mirror<L, G, J> {
     }
 
     /// Takes from each stripe what the next superblock says of it, with these spans.
-    #[tactic(auto, using(crate::proofs::TakingLemmas::none_taken, crate::proofs::TakingLemmas::none_long, crate::proofs::TakingLemmas::take_more, crate::proofs::TakingLemmas::take_long, crate::proofs::TakingLemmas::take_among, crate::proofs::TakingLemmas::among_same))]
-    fn take_all<R: Wait>(&self, rt: &R, spans: [bool; MOST_SPANS], whole: &LegSet) -> Taken
+    #[tactic(auto, using(crate::proofs::TakingLemmas::none_taken, crate::proofs::TakingLemmas::none_long, crate::proofs::TakingLemmas::take_more, crate::proofs::TakingLemmas::take_long, crate::proofs::TakingLemmas::take_among, crate::proofs::TakingLemmas::among_same, crate::proofs::TakingLemmas::saves_none, crate::proofs::TakingLemmas::saves_more))]
+    fn take_all<R: Wait>(
+        &self,
+        rt: &R,
+        pass: &mut LogPass<L, J>,
+        spans: [bool; MOST_SPANS],
+        whole: &LegSet,
+    ) -> Taken
         ensures taken { IsTaken L self.now.shape.stripes whole.now result }
         ensures wanted { AreAmong spans result.spans }
+        ensures notes { SavesEach (leg_type L.model L.honest) BeginsSo self.now.shape.stripes
+            pass.old pass.new }
     {
         within_bounds(&self.shape);
         let mut taken = Taken::new(spans);
         'stripes: for stripe in 0..self.shape.stripes {
             let mut held = self.hold(rt, stripe);
-            taken.take(&mut held, whole);
+            taken.take(&mut held, pass, whole);
         }
         taken
     }
 
     /// Takes what is wanted, and all spans that a stripe has marked.
     #[tactic(auto, using(crate::proofs::TakingLemmas::taken_same, crate::proofs::TakingLemmas::among_twice))]
-    fn order_of<R: Wait>(&self, rt: &R, wanted: Wanted) -> SaveOrder
+    fn order_of<R: Wait>(&self, rt: &R, pass: &mut LogPass<L, J>, wanted: Wanted) -> SaveOrder
         ensures taken { IsTaken L self.now.shape.stripes result.whole (taken_for result) }
         ensures whole { result.whole ≡ wanted.whole }
         ensures wanted { AreAmong wanted.spans result.spans }
+        ensures notes { SavesEach (leg_type L.model L.honest) BeginsSo self.now.shape.stripes
+            pass.old pass.new }
     {
         let Wanted { mut spans, whole } = wanted;
         self.join_all_marks(rt, &mut spans);
-        SaveOrder::new(self.take_all(rt, spans, &whole), whole)
+        SaveOrder::new(self.take_all(rt, pass, spans, &whole), whole)
     }
 
     /// Begins a save: what the next superblock says of each stripe. It marks all spans that a
     /// stripe has marked, and those that are wanted. A leg that is to be replaced is partial
-    /// nowhere.
-    pub fn begin_save<R: Wait>(&self, rt: &R) -> SaveOrder
-        ensures { IsTaken L self.now.shape.stripes result.whole (taken_for result) }
+    /// nowhere. This pass notes it of each stripe.
+    pub fn begin_save<R: Wait>(&self, rt: &R, pass: &mut LogPass<L, J>) -> SaveOrder
+        ensures taken { IsTaken L self.now.shape.stripes result.whole (taken_for result) }
+        ensures notes { SavesEach (leg_type L.model L.honest) BeginsSo self.now.shape.stripes
+            pass.old pass.new }
     {
         let wanted = self.wanted_to_save(rt);
-        self.order_of(rt, wanted)
+        self.order_of(rt, pass, wanted)
     }
 
     /// Ends a save: the order's superblock was saved, so it is durable, and there is no older one.
     /// Who waits for it goes on, and writes are claimed whose calls ended while no save could be
-    /// done.
-    pub fn end_save<R: Wait>(&self, rt: &R, order: SaveOrder, saved: Saved)
+    /// done. This pass notes the end of each stripe.
+    pub fn end_save<R: Wait>(
+        &self,
+        rt: &R,
+        pass: &mut LogPass<L, J>,
+        order: SaveOrder,
+        saved: Saved,
+    )
         requires sets { saved.sets ≡ order.sets }
         requires marked { saved.marked ≡ order.marked }
+        ensures { SavesEach (leg_type L.model L.honest) (EndsAt order) self.now.shape.stripes
+            pass.old pass.new }
     {
-        within_bounds(&self.shape);
         for stripe in 0..self.shape.stripes {
-            let mut held = self.hold(rt, stripe);
-            held.end_save(&order);
-            held.claim_left();
+            self.end_one(rt, pass, stripe, &order);
         }
         if let Some(desk) = &self.desk {
             desk.end(rt);
         }
     }
 
+    /// Ends a save in the stripe of this number.
+    fn end_one<R: Wait>(&self, rt: &R, pass: &mut LogPass<L, J>, stripe: u32, order: &SaveOrder)
+        requires { stripe < self.now.shape.stripes }
+        ensures { SavesIn (leg_type L.model L.honest) (EndsAt order.now) stripe pass.old pass.new }
+    {
+        within_bounds(&self.shape);
+        let mut held = self.hold(rt, stripe);
+        held.end_save(pass, order);
+        held.claim_left();
+    }
+
     /// A save could not be done, and none is until `save_again`: what the gates refuse from now on
     /// ends as `SaveFailed`, and so do the calls of whoever waits.
-    pub fn fail_save<R: Wait>(&self, rt: &R) {
-        for lock in &self.locks {
-            let mut held = lock.hold(rt);
-            held.fail_save();
+    pub fn fail_save<R: Wait>(&self, rt: &R, pass: &mut LogPass<L, J>)
+        ensures { SavesEach (leg_type L.model L.honest) FailsAt self.now.shape.stripes
+            pass.old pass.new }
+    {
+        for stripe in 0..self.shape.stripes {
+            self.fail_one_save(rt, pass, stripe);
         }
         if let Some(desk) = &self.desk {
             desk.fail(rt);
         }
+    }
+
+    /// Fails a save in the stripe of this number.
+    fn fail_one_save<R: Wait>(&self, rt: &R, pass: &mut LogPass<L, J>, stripe: u32)
+        requires { stripe < self.now.shape.stripes }
+        ensures { SavesIn (leg_type L.model L.honest) FailsAt stripe pass.old pass.new }
+    {
+        let mut held = self.hold(rt, stripe);
+        held.fail_save(pass);
     }
 
     /// No save is to come: `next_save` answers false from now on, and nobody waits.

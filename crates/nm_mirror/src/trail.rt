@@ -1,12 +1,14 @@
 //! What is noted of a stripe in the log of the mirror.
 ghost use Rattle.std.specs.Prelude.{◌≡◌, [], ◌∷◌, IfSome, Some};
-ghost use Rattle.nm_book.specs.Log.{IsLegal, shard_of, whats};
+ghost use Rattle.nm_book.specs.Log.{IsLegal, SeesOn, shard_of, whats};
 ghost use Rattle.nm_gate.specs.Changes.{Resaved};
 ghost use Rattle.nm_gate.specs.declared.gated_stripe.GatedStripe.{GatedStripe};
 ghost use Rattle.nm_history.specs.History.{LeadsTo, LegalMoves};
 ghost use Rattle.nm_history.specs.Lost.{none_lost};
 ghost use Rattle.nm_history.specs.Moves.{MoveOf};
 ghost use Rattle.nm_leg.specs.Leg.{leg_type};
+ghost use Rattle.nm_mirror.specs.JointHistory.{history_of};
+ghost use Rattle.nm_mirror.specs.SavesNoted.{NotesSave};
 ghost use Rattle.nm_mirror.specs.Trail.{MadeIf, NotesAll, noted_if};
 
 use nm_book::{Book, Closer, Keeper, Maker, Naming, Notes, Opened};
@@ -181,6 +183,19 @@ impl<L: LegPart, J: Naming> Trail<L, J> {
         self.book.pass()
     }
 
+    /// The pass sees the log as it is, where the stripe's entries lead to what the trail does.
+    pub(crate) fn look(&mut self, pass: &mut LogPass<L, J>)
+        ensures sees { SeesOn (LegalMoves (leg_type L.model L.honest)) pass.old pass.new }
+        ensures leads { IfSome self.old (λ now. LeadsTo (leg_type L.model L.honest)
+            now.stripe.place.stripe (history_of now.stripe.place.stripe pass.new.seen) now) }
+        ensures stays { self.new ≡ self.old }
+    {
+        let Some(keeper) = self.keeper.take() else {
+            unreachable!()
+        };
+        self.keeper = Some(self.book.look(pass, keeper));
+    }
+
     /// Notes through this pass the move that led here, if one was made. What it says is told by
     /// `about`.
     #[inline(always)]
@@ -201,6 +216,23 @@ impl<L: LegPart, J: Naming> Trail<L, J> {
         if is_made {
             self.note::<N>(pass, to);
         }
+    }
+
+    /// Notes through this pass the move that led here. What it says is told by `about`.
+    pub(crate) fn note_made<N: Tells<L>, X>(
+        &mut self,
+        pass: &mut LogPass<L, J>,
+        to: &GatedStripe<L>,
+        _about: &X,
+    )
+        requires { (from : GatedStripe L) × (self.old ≡ Some from)
+            × MoveOf (leg_type L.model L.honest) none_lost N.made from to.now }
+        ensures to { self.new ≡ Some to.now }
+        ensures notes { NotesAll (LegalMoves (leg_type L.model L.honest))
+            to.now.stripe.place.stripe (record { made = N.made; to = to.now } ∷ [])
+            pass.old pass.new }
+    {
+        self.note::<N>(pass, to);
     }
 
     // Notes through this pass the move that led here.
@@ -252,14 +284,15 @@ impl<L: LegPart, J: Naming> Trail<L, J> {
     }
 
     /// Notes that a save begins, ends or fails, where there is a superblock.
-    pub(crate) fn note_save(&mut self, to: &GatedStripe<L>)
+    pub(crate) fn note_save(&mut self, pass: &mut LogPass<L, J>, to: &GatedStripe<L>)
         requires { (from : GatedStripe L) × (self.old ≡ Some from)
             × (to.now.stripe ≡ from.stripe)
             × Resaved from.stripe from.durable to.now.durable }
-        ensures { self.new ≡ Some to.now }
+        ensures to { self.new ≡ Some to.now }
+        ensures notes { NotesSave (leg_type L.model L.honest) to.now pass.old pass.new }
     {
         if to.durable.is_some() {
-            self.note_own::<Saving, _>(to, &());
+            self.note_made::<Saving, _>(pass, to, &());
         }
     }
 }

@@ -1,14 +1,15 @@
 -- A leg's taking out passes every gate.
 use Rattle.nm_leg.specs.Leg.{leg_type}
+use Rattle.nm_mirror.specs.OwnNotes.{answer_of_fail}
 use Rattle.nm_mirror.proofs.HeldLemmas.{held-as, refused-stays}
 use Rattle.nm_mirror.proofs.NotedLemmas.{fail-allowed, own-move}
 use Rattle.nm_mirror.proofs.OneWay.{one-way}
-use Rattle.nm_mirror.proofs.OwnSteps.{answer_of_fail, fail-step}
+use Rattle.nm_mirror.proofs.OwnSteps.{fail-step, own-noted}
 use Rattle.nm_stripe.specs.declared.step.Step.TheVariants as step
 use Rattle.nm_mirror.proofs.held.Held.fail_leg.Goals as goal
 
-pub note_own-requires : goal.note_own-requires
-note_own-requires g c =
+pub note_made-requires : goal.note_made-requires
+note_made-requires g c =
     let type = leg_type g.L.LegPart.model g.L.LegPart.honest in
     let held = c.args.self.now in
     let p = c.fail-failing in (
@@ -24,3 +25,11 @@ returns-clause-stays g c = refused-stays (one-way g.row.L g.L.LegPart) c.args.se
 
 pub returns-clause-others : goal.returns-clause-others
 returns-clause-others g c = held-as (one-way g.row.L g.L.LegPart) _
+
+pub returns-clause-notes : goal.returns-clause-notes
+returns-clause-notes g c =
+    let type = leg_type g.L.LegPart.model g.L.LegPart.honest in
+    let held = c.args.self.now in
+    let p = c.fail-failing in
+    own-noted type (step.Fail c.args.leg) (answer_of_fail p.result) held.gated.stripe p.new.self _ _ _
+    (fail-step type held.gated.stripe p.new.self c.args.leg p.result p.ensures.ok p.ensures.cause p.ensures.stays) c.note_made.ensures.notes

@@ -2,11 +2,11 @@
 use Rattle.nm_leg.specs.Leg.{leg_type}
 use Rattle.nm_mirror.proofs.HeldLemmas.{held-as}
 use Rattle.nm_mirror.proofs.OneWay.{one-way}
-use Rattle.nm_mirror.proofs.OwnSaves.{bounds-stay, returns-move}
+use Rattle.nm_mirror.proofs.OwnSaves.{bounds-stay, return-noted, returns-move}
 use Rattle.nm_mirror.proofs.held.Held.return_leg.Goals as goal
 
-pub note_own-requires : goal.note_own-requires
-note_own-requires g c =
+pub note_made-requires : goal.note_made-requires
+note_made-requires g c =
     let held = c.args.self.now in
     let r = c.return_leg-returned in (
       held.gated,
@@ -25,3 +25,18 @@ note_own-requires g c =
 
 pub returns-clause-others : goal.returns-clause-others
 returns-clause-others g c = bounds-stay c.args.self.now _ (held-as (one-way g.row.L g.L.LegPart) _) c.return_leg-returned.ensures.durable
+
+pub returns-clause-notes : goal.returns-clause-notes
+returns-clause-notes g c =
+    let held = c.args.self.now in
+    let r = c.return_leg-returned in
+    return-noted (leg_type g.L.LegPart.model g.L.LegPart.honest) c.args.leg r.result held.gated r.new.self c.args.pass.now c.note_made.new.pass (record {
+      allowed = c.requires.allowed;
+      there = c.requires.leg;
+      span = r.ensures.span;
+      ok = r.ensures.ok;
+      left = r.ensures.left;
+      cause = r.ensures.cause;
+      stays = r.ensures.stays;
+      durable = r.ensures.durable;
+    }) c.note_made.ensures.notes

@@ -5,5 +5,5 @@ use Rattle.nm_history.specs.Telling.{answer_of_return}
 use Rattle.nm_stripe.specs.declared.step.Step.TheVariants as step
 use Rattle.nm_mirror.proofs.held.Held.return_leg.Given as goal
 
-abbrev pub ghosts-note_own : goal.ghosts-note_own
-ghosts-note_own g a = record { made = Does (step.Return a._about.now.0 (suspects a._about.now.0 a.to.now.durable)) (answer_of_return a._about.now.1.now) }
+abbrev pub ghosts-note_made : goal.ghosts-note_made
+ghosts-note_made g a = record { made = Does (step.Return a._about.now.0 (suspects a._about.now.0 a.to.now.durable)) (answer_of_return a._about.now.1.now) }

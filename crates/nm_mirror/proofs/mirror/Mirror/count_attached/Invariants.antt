@@ -1,7 +1,7 @@
--- Each stripe so far was counted once.
+-- Each stripe so far was counted once, and the leg joins none.
 use Rattle.std.proofs.Common.{◌≡◌}
 use Rattle.nm_mirror.specs.Counts.{attaches}
 use Rattle.nm_mirror.proofs.mirror.Mirror.count_attached.Given as goal
 
 abbrev pub invariant-loop-stripe : goal.invariant-loop-stripe
-invariant-loop-stripe g l = attaches l.counts ≡ l.stripe
+invariant-loop-stripe g l = (attaches l.counts ≡ l.stripe) × (l.counts.joining ≡ 0)

@@ -1,7 +1,10 @@
 -- Each stripe so far was counted once.
 use Rattle.std.proofs.Common.{◌≡◌}
+use Rattle.nm_leg.specs.Leg.{leg_type}
+use Rattle.nm_mirror.specs.Attached.{AttachesEach}
 use Rattle.nm_mirror.specs.Counts.{attaches}
 use Rattle.nm_mirror.proofs.mirror.Mirror.return_leg.Given as goal
 
 abbrev pub invariant-loop-stripe : goal.invariant-loop-stripe
-invariant-loop-stripe g l = attaches l.counts ≡ l.stripe
+invariant-loop-stripe g l =
+    (attaches l.counts ≡ l.stripe) × AttachesEach (leg_type g.L.LegPart.model g.L.LegPart.honest) l.leg l.stripe l.fn.pass (l.counts, l.pass)

@@ -1,6 +1,8 @@
--- The stripes so far are taken, and the spans have each that was wanted.
+-- The stripes so far are taken and noted, and the spans have each that was wanted.
 use Rattle.std.proofs.Common.{◌≡◌, length}
-use Rattle.nm_mirror.specs.Saving.{AreAmong, IsTaken}
+use Rattle.nm_leg.specs.Leg.{leg_type}
+use Rattle.nm_mirror.specs.Saving.{AreAmong, BeginsSo, IsTaken}
+use Rattle.nm_mirror.specs.SavesNoted.{SavesEach}
 use Rattle.nm_mirror.proofs.mirror.Mirror.take_all.Given as goal
 
 abbrev pub invariant-stripes : goal.invariant-stripes
@@ -8,3 +10,4 @@ invariant-stripes g l =
     IsTaken g.row.L.Denot l.stripe l.whole l.taken
     × AreAmong l.fn.spans l.taken.spans
     × (length l.taken.claims ≡ 64)
+    × SavesEach (leg_type g.L.LegPart.model g.L.LegPart.honest) BeginsSo l.stripe l.fn.pass l.pass

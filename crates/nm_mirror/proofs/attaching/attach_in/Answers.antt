@@ -1,5 +1,5 @@
 -- Where the leg does not join the stripe stays.
-use Rattle.nm_mirror.proofs.legs.attach_in.Goals as goal
+use Rattle.nm_mirror.proofs.attaching.attach_in.Goals as goal
 
 pub returns-in-Err-clause-stays : goal.returns-in-Err-clause-stays
 returns-in-Err-clause-stays g c some = c.in-Err.ensures.stays

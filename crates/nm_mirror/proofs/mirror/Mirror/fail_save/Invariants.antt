@@ -1,0 +1,8 @@
+-- Each stripe so far was told so, and noted.
+use Rattle.nm_leg.specs.Leg.{leg_type}
+use Rattle.nm_mirror.specs.Saving.{FailsAt}
+use Rattle.nm_mirror.specs.SavesNoted.{SavesEach}
+use Rattle.nm_mirror.proofs.mirror.Mirror.fail_save.Given as goal
+
+abbrev pub invariant-loop-stripe : goal.invariant-loop-stripe
+invariant-loop-stripe g l = SavesEach (leg_type g.L.LegPart.model g.L.LegPart.honest) FailsAt l.stripe l.fn.pass l.pass

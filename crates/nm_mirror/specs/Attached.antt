@@ -1,0 +1,58 @@
+-- What one hold of each stripe counts and notes, where a leg joins all of them again.
+use Rattle.std.specs.Prelude.{◌≡◌, ℕ, ◌<◌, ◌≤◌, Bool, true, false, length, Some}
+use Rattle.nm_book.specs.Log.{PassView}
+use Rattle.nm_gate.specs.declared.gated_stripe.GatedStripe.{GatedStripe}
+use Rattle.nm_history.specs.declared.transition.Transition.{Transition}
+use Rattle.nm_leg.specs.Leg.{LegType}
+use Rattle.nm_mirror.specs.Counted.{CountsEach, FailsEach}
+use Rattle.nm_mirror.specs.Counts.{attached_so, attaches}
+use Rattle.nm_mirror.specs.OwnNotes.{NotesReturn}
+use Rattle.nm_mirror.specs.declared.counts.AttachCounts.{AttachCounts}
+use Rattle.nm_mirror.specs.declared.counts.FailCounts.{FailCounts}
+use Rattle.nm_mirror.specs.declared.doubts.Returning.{Returning}
+use Rattle.nm_mirror.specs.declared.doubts.Returning.TheVariants.{Everywhere, WhereOut}
+use Rattle.nm_rules.specs.Attach.{attach_cause}
+use Rattle.nm_rules.specs.State.{StripeState, left}
+use Rattle.nm_rules.specs.declared.refusal.Refusal.{Refusal}
+use Rattle.nm_rules.specs.declared.refusal.Refusal.TheVariants.{NotOut, Stopped}
+
+-- nothing is counted yet
+abbrev pub no_attaches : AttachCounts
+no_attaches = record { joining = 0; left = 0; not_out = 0; stopped = 0 }
+
+-- how a stripe counts where the leg stays as it is
+abbrev pub unchanged : (stopped : Bool) → AttachCounts → AttachCounts
+unchanged true counts = attached_so (Some Stopped) 0 counts
+unchanged false counts = attached_so (Some NotOut) 0 counts
+
+-- What is counted and noted of the stripe of this number: in a hold of it the leg joined, or may
+-- not; or the stripe has no such leg; or no superblock can be saved that lets it join.
+pub data AttachesIn {L : Type 0} (type : LegType L) (leg number : ℕ)
+    (old new : AttachCounts × PassView (Transition L)) : Type 0 where
+  Asked : (held : GatedStripe L × GatedStripe L) → held.0.stripe.place.stripe ≡ number
+      → leg < length held.0.stripe.legs
+      → new.0 ≡ attached_so (attach_cause held.0.stripe leg) (left leg held.1.stripe) old.0
+      → NotesReturn type leg held old.1 new.1 → AttachesIn type leg number old new
+  Absent : (stripe : StripeState L) → stripe.place.stripe ≡ number → length stripe.legs ≤ leg
+      → new ≡ (unchanged stripe.stopped old.0, old.1) → AttachesIn type leg number old new
+  NotSaved : new ≡ (attached_so (Some Stopped) 0 old.0, old.1) → AttachesIn type leg number old new
+
+-- so it is of each of so many stripes, in order
+abbrev pub AttachesEach : {L : Type 0} → LegType L → (leg stripes : ℕ)
+    → (old : PassView (Transition L)) → AttachCounts × PassView (Transition L) → Type 0
+AttachesEach type leg stripes old new =
+    CountsEach (AttachesIn type leg) (no_attaches, old) stripes new
+
+-- where the leg may have lost something everywhere, it is first taken out of each stripe
+abbrev pub GoesOutFirst : {L : Type 0} → LegType L → (leg stripes : ℕ) → Returning
+    → (old new : PassView (Transition L)) → Type 0
+GoesOutFirst type leg stripes Everywhere old new =
+    (counts : FailCounts) × FailsEach type leg stripes old (counts, new)
+GoesOutFirst type leg stripes WhereOut old new = new ≡ old
+
+-- the leg was out in no stripe, and nothing was done; or it joins each again in which it is out
+pub data AttachesLeg {L : Type 0} (type : LegType L) (leg stripes : ℕ) (returning : Returning)
+    (old : PassView (Transition L)) (new : AttachCounts × PassView (Transition L)) : Type 0 where
+  OutNowhere : new.0.joining ≡ 0 → new.1 ≡ old → AttachesLeg type leg stripes returning old new
+  Joins : (mid : PassView (Transition L)) → GoesOutFirst type leg stripes returning old mid
+      → AttachesEach type leg stripes mid new → AttachesLeg type leg stripes returning old new

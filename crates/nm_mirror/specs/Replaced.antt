@@ -1,0 +1,43 @@
+-- What one hold of each stripe counts and notes, where other legs take the place of one.
+use Rattle.std.specs.Prelude.{◌≡◌, ℕ, ◌+◌, ◌<◌, List, length, slice_get, Some}
+use Rattle.nm_book.specs.Log.{PassView}
+use Rattle.nm_gate.specs.declared.gated_stripe.GatedStripe.{GatedStripe}
+use Rattle.nm_history.specs.declared.transition.Transition.{Transition}
+use Rattle.nm_leg.specs.Leg.{LegType}
+use Rattle.nm_mirror.specs.Counted.{CountsEach}
+use Rattle.nm_mirror.specs.Counts.{replaced_so}
+use Rattle.nm_mirror.specs.OwnNotes.{NotesReplace}
+use Rattle.nm_mirror.specs.declared.counts.ReplaceCounts.{ReplaceCounts}
+use Rattle.nm_rules.specs.Attach.{attach_cause}
+use Rattle.nm_rules.specs.State.{left}
+
+-- nothing is counted yet
+abbrev pub no_replaces : ReplaceCounts
+no_replaces = record { joining = 0; left = 0; out = 0; not_out = 0; stopped = 0 }
+
+-- one more where the old leg stays out
+abbrev pub stays_out : ReplaceCounts → ReplaceCounts
+stays_out counts = record counts { out = counts.out + 1 }
+
+-- What is counted and noted of the stripe of this number: in a hold of it the new leg joined, or
+-- may not; or it does not fit, or no superblock can be saved that lets it join.
+pub data ReplacesIn {L : Type 0} (type : LegType L) (leg : ℕ) (part : L) (number : ℕ)
+    (old new : ReplaceCounts × PassView (Transition L)) : Type 0 where
+  Asked : (held : GatedStripe L × GatedStripe L) → held.0.stripe.place.stripe ≡ number
+      → leg < length held.0.stripe.legs
+      → new.0 ≡ replaced_so (attach_cause held.0.stripe leg) (left leg held.1.stripe) old.0
+      → NotesReplace type leg part held old.1 new.1 → ReplacesIn type leg part number old new
+  Stays : new ≡ (stays_out old.0, old.1) → ReplacesIn type leg part number old new
+
+-- so it is of the stripe of this number and the new leg of its place
+pub record ReplacesNext {L : Type 0} (type : LegType L) (leg : ℕ) (parts : List L) (number : ℕ)
+    (old new : ReplaceCounts × PassView (Transition L)) : Type 0 where
+  pub part : L
+  pub there : slice_get parts number ≡ Some part
+  pub replaces : ReplacesIn type leg part number old new
+
+-- so it is of each of so many stripes, in order
+abbrev pub ReplacesEach : {L : Type 0} → LegType L → ℕ → List L → (stripes : ℕ)
+    → (old : PassView (Transition L)) → ReplaceCounts × PassView (Transition L) → Type 0
+ReplacesEach type leg parts stripes old new =
+    CountsEach (ReplacesNext type leg parts) (no_replaces, old) stripes new
