@@ -1,5 +1,6 @@
 pub mod Blocks
 pub mod FileLeg
+pub mod Look
 pub mod Media
 pub mod Marks
 pub mod Medium

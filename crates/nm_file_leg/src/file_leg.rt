@@ -1,15 +1,17 @@
 ghost use Rattle.std.specs.Prelude.{◌≡◌, ◌+◌, ◌%◌, ◌^◌, ◌<◌, ◌≤◌, length, is_ok, IsTrue};
-ghost use Rattle.std.specs.Prelude.{IsFalse, IsErr, OnOk, OnErr, IfOk};
+ghost use Rattle.std.specs.Prelude.{IsFalse, IsErr, IfSome, OnOk, OnErr, IfOk};
 ghost use Rattle.nm_leg.specs.Leg.{IsRun, WritesLeg, SyncsLeg, blocks_in};
 ghost use Rattle.nm_geometry.specs.Geometry.{IsGeometry, stripe_blocks};
 ghost use Rattle.nm_file_leg.specs.Blocks.{leg_on, same_length};
 ghost use Rattle.nm_file_leg.specs.Runs.{WritesRun, KeepsRun, run_places};
 ghost use Rattle.nm_file_leg.specs.FileLeg.{OwnsBlocks, KeepsBlocks, FileRules, Reaches, file_leg};
+ghost use Rattle.nm_file_leg.specs.Look.{reaches};
 ghost use Rattle.nm_file_leg.specs.Marks.{durable_elsewhere, marked_each};
 ghost use Rattle.nm_file_leg.specs.Remembered.{count_regions, AreWhole, Begins, NotesWrite};
 ghost use Rattle.nm_file_leg.specs.Remembered.{EndsPeriod, NotesFailure, learnt};
 
 use crate::Medium;
+use crate::file_look::FileLook;
 use crate::region_writes::{RegionWrites, end_period, learn_loss};
 use crate::runs::{read_run, write_run};
 use nm_geometry::Shape;
@@ -92,13 +94,61 @@ impl<M: Medium> FileLeg<M> {
     {
         &self.medium
     }
+
+    /// Looks at the medium's length, for the writes of one operation.
+    pub fn look(&self) -> FileLook
+        ensures { IsTrue M.honest → IfSome result.length
+            (λ n. n ≡ length (M.held self.now.medium).contents) }
+    {
+        FileLook::at(&self.medium)
+    }
+
+    /// Writes a run of blocks from `at` on, by a look at the medium that came before: where that
+    /// found it shorter than it was when the leg was made, or was told no length, nothing is
+    /// written. What was cut off since is not found: the write makes the medium long again, with
+    /// zeroes.
+    pub fn write_seen(&mut self, look: FileLook, at: u64, bytes: &[u8]) -> Result<(), LegFault>
+        requires { IsRun at (length (leg_on (M.held self.old.medium) self.old.stripe
+            self.old.shape self.old.faults).contents) bytes.now }
+        ensures writes { WritesLeg M.honest (is_ok result) at bytes.now
+            (file_leg (M.held self.old.medium) self.old.stripe self.old.shape self.old.faults
+            self.old.writes)
+            (file_leg (M.held self.new.medium) self.new.stripe self.new.shape self.new.faults
+            self.new.writes) }
+        ensures shorter { IsFalse (reaches look.length self.old.size)
+            → IsErr result × (self.new.medium ≡ self.old.medium) }
+        ensures dirty { IsTrue self.new.dirty }
+        ensures told { IsTrue M.honest → self.new.told_loss ≡ M.tells self.old.medium }
+        ensures noted { NotesWrite (is_ok result) at (blocks_in bytes.now)
+            (learnt self.new.told_loss self.old.writes) self.new.writes }
+    {
+        let count = (bytes.len() / BLOCK_BYTES) as u64;
+        self.told_loss = self.medium.tells_loss();
+        learn_loss(&mut self.writes, self.told_loss);
+        let keeps_holes = self.writes.is_whole_at(at, count);
+        let is_written = write_if_long(
+            &mut self.medium,
+            look.reaches(self.size),
+            &self.shape,
+            self.stripe,
+            at,
+            bytes,
+            keeps_holes,
+        );
+        self.writes.note_write(at, count, is_written);
+        self.dirty = true;
+        if !is_written {
+            return Err(count_fault(&mut self.faults));
+        }
+        Ok(())
+    }
 }
 
-/// Writes a run of blocks as `write_run` does, unless the medium tells no length or is shorter than
-/// it was.
+/// Writes a run of blocks as `write_run` does, unless the medium was found too short, or told no
+/// length.
 fn write_if_long<M: Medium>(
     medium: &mut M,
-    size: u64,
+    is_long: bool,
     shape: &Shape,
     stripe: u32,
     at: u64,
@@ -112,10 +162,9 @@ fn write_if_long<M: Medium>(
         → KeepsRun (M.held medium.old) (run_places stripe shape.now at) (blocks_in bytes.now) }
     ensures writes { WritesRun M.honest result (run_places stripe shape.now at) bytes.now
         (M.held medium.old) (M.held medium.new) }
-    ensures shorter { IsTrue M.honest → length (M.held medium.old).contents < size
-        → IsFalse result × (medium.new ≡ medium.old) }
+    ensures shorter { IsFalse is_long → IsFalse result × (medium.new ≡ medium.old) }
 {
-    if !matches!(medium.len(), Ok(now) if now >= size) {
+    if !is_long {
         return false;
     }
     write_run(medium, shape, stripe, at, bytes, keeps_holes)
@@ -172,25 +221,8 @@ impl<M: Medium> LegPart for FileLeg<M> {
         ensures noted { NotesWrite (is_ok result) at (blocks_in bytes.now)
             (learnt self.new.told_loss self.old.writes) self.new.writes }
     {
-        let count = (bytes.len() / BLOCK_BYTES) as u64;
-        self.told_loss = self.medium.tells_loss();
-        learn_loss(&mut self.writes, self.told_loss);
-        let keeps_holes = self.writes.is_whole_at(at, count);
-        let is_written = write_if_long(
-            &mut self.medium,
-            self.size,
-            &self.shape,
-            self.stripe,
-            at,
-            bytes,
-            keeps_holes,
-        );
-        self.writes.note_write(at, count, is_written);
-        self.dirty = true;
-        if !is_written {
-            return Err(count_fault(&mut self.faults));
-        }
-        Ok(())
+        let look = self.look();
+        self.write_seen(look, at, bytes)
     }
 
     fn sync(&mut self) -> Result<(), LegFault>

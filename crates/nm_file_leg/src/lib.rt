@@ -9,6 +9,7 @@
 
 pub use backing_file::BackingFile;
 pub use file_leg::FileLeg;
+pub use file_look::FileLook;
 pub use file_user::FileUser;
 pub use fuse_medium::FuseMedium;
 pub use medium::Medium;
@@ -18,6 +19,7 @@ pub use sync_counts::{is_covered, may_have_lost};
 
 mod backing_file;
 mod file_leg;
+mod file_look;
 mod file_user;
 mod fuse_medium;
 mod medium;

@@ -7,7 +7,7 @@ use Rattle.nm_file_leg.specs.Remembered.{NotesWrite, learnt}
 use Rattle.nm_file_leg.proofs.LegLemmas.{writes-failed, writes-marked, writes-run}
 use Rattle.nm_file_leg.proofs.RuleLemmas.{keeps-run, rules-told, rules-write, owns-kept}
 use Rattle.nm_file_leg.proofs.RememberedLemmas.{notes-learnt}
-use Rattle.nm_file_leg.proofs.file_leg.FileLegLegPart.write.Goals as goal
+use Rattle.nm_file_leg.proofs.file_leg.FileLeg.write_seen.Goals as goal
 
 pub is_whole_at-keeps_holes-requires-clause-inside : goal.is_whole_at-keeps_holes-requires-clause-inside
 is_whole_at-keeps_holes-requires-clause-inside g c =
