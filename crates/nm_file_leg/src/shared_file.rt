@@ -14,9 +14,9 @@ const LOOKS: u64 = u64::MAX;
 /// The writes of one user of a file.
 #[derive(Drop)]
 struct User {
-    /// Whether a write of this user is running.
-    is_writing: AtomicBool,
-    /// The number of its last write that has ended, by the count of all writes of the file.
+    /// How many writes of this user are running.
+    writing: AtomicU64,
+    /// The greatest number of its writes that have ended, by the count of all writes of the file.
     last: AtomicU64,
     /// Whether a sync that failed may have lost bytes of it, which it was not told yet.
     has_lost: AtomicBool,
@@ -28,22 +28,25 @@ struct User {
 /// fails, each user that has written since the last good one fails its next sync, or is told before
 /// its next write, since the system tells the failure once for each opening.
 ///
-/// Why a sync that succeeds is right to: say that it is user U's, and W is U's last write. One sync
-/// runs at a time (`is_syncing`). U succeeds only where the call of a good sync S covers W: S read
-/// the count of ended writes before its call, and W's number, given when W had ended, is no larger.
-/// So S's call began after W had ended. Take the first such S. A sync F that failed can have lost
-/// bytes of W only if its call ended after W began; it ended before S, and does so by marking the
-/// users, before it lets S run. Then F finds U writing, or, as U takes its number before it is no
-/// longer writing, finds W's number, which no sync before S covers. So F marks U. U looks at the
-/// mark after it has read how much is covered, so where it reads what S stored it also finds the
-/// mark, and fails. A mark goes only where U's sync fails, or U is told before a write, and then
-/// U's leg believes no sync until the regions that it wrote since its last good one were written
-/// again, by writes later than F.
+/// Why a sync that succeeds is right to: say that it is user U's, and W is a write of U that had
+/// ended before it began. One sync runs at a time (`is_syncing`). U succeeds only where the call of
+/// a good sync S covers the greatest number of U's writes, and so W: S read the count of ended
+/// writes before its call, and W's number, given when W had ended, is no larger. So S's call began
+/// after W had ended. Take the first S that covers W. A sync F that failed can have lost bytes of W
+/// only if its call ended after W began; it ended before S, and does so by marking the users,
+/// before it lets S run. Then F finds U writing, or, as W takes its number before it is no longer
+/// counted as running, finds a number of U no smaller than W's, which no sync before S covers. So F
+/// marks U. U looks at the mark after it has read how much is covered, so where it reads what S
+/// stored it also finds the mark, and fails, unless U was told. A mark goes only where U is told:
+/// where its sync fails, or it asks (`tells_loss`). Then U's leg believes no sync, not even one that
+/// runs, until the regions that it wrote since its last good one were written again, by writes
+/// later than F.
 ///
-/// Each order is that of one sequence of all these steps (`SeqCst`). A user's own calls come one
-/// after the other. A write that failed counts as one, since it may have left bytes. Zeroes that
-/// are not written, since the file has a hole there, count as none: they have stood there since
-/// the user's last write or the opening.
+/// Each order is that of one sequence of all these steps (`SeqCst`). Several calls of a user may
+/// run at once; then its syncs leave the mark (`sync_untold`), and its leg asks for it while no
+/// other call of the leg notes what came of it. A write that failed counts as one, since it may
+/// have left bytes. Zeroes that are not written, since the file has a hole there, count as none:
+/// they have stood there since the user's last write or the opening.
 #[derive(Drop)]
 pub struct SharedFile<F: BackingFile> {
     file: F,
@@ -74,7 +77,7 @@ impl<F: BackingFile> SharedFile<F> {
         let mut all = Vec::with_capacity(alloc, users)?;
         for _ in 0..users {
             all.push(User {
-                is_writing: AtomicBool::new(false),
+                writing: AtomicU64::new(0),
                 last: AtomicU64::new(1),
                 has_lost: AtomicBool::new(false),
             })?;
@@ -95,14 +98,14 @@ impl<F: BackingFile> SharedFile<F> {
         &self.file
     }
 
-    /// Writes for this user.
+    /// Writes for this user, while other writes of it may run.
     pub fn write(&self, user: usize, at: u64, bytes: &[u8]) -> io::Result<usize> {
         let own = self.users.get(user).ok_or(no_user())?;
-        own.is_writing.store(true, Ordering::SeqCst);
+        own.writing.fetch_add(1, Ordering::SeqCst);
         let many = self.file.write_bytes(at, bytes);
         let before = self.ended.fetch_add(1, Ordering::SeqCst);
-        own.last.store(before.wrapping_add(1), Ordering::SeqCst);
-        own.is_writing.store(false, Ordering::SeqCst);
+        own.last.fetch_max(before.wrapping_add(1), Ordering::SeqCst);
+        own.writing.fetch_sub(1, Ordering::SeqCst);
         many
     }
 
@@ -117,8 +120,18 @@ impl<F: BackingFile> SharedFile<F> {
         }
     }
 
-    /// Makes durable what this user has written.
+    /// Makes durable what this user has written. A loss that fails it is told by that.
     pub fn sync(&self, user: usize) -> io::Result<()> {
+        let done = self.sync_untold(user);
+        if done.is_err() {
+            let _ = self.tells_loss(user);
+        }
+        done
+    }
+
+    /// Makes durable what this user has written, while other calls of it may run. Where a sync that
+    /// failed may have lost bytes of it, this one fails until that is told by `tells_loss`.
+    pub fn sync_untold(&self, user: usize) -> io::Result<()> {
         let own = self.users.get(user).ok_or(no_user())?;
         for _ in 0..LOOKS {
             if let Some(known) = self.known(own) {
@@ -176,7 +189,7 @@ impl<F: BackingFile> SharedFile<F> {
     /// before the mark.
     fn known(&self, own: &User) -> Option<io::Result<()>> {
         let covered = self.covered.load(Ordering::SeqCst);
-        if own.has_lost.swap(false, Ordering::SeqCst) {
+        if own.has_lost.load(Ordering::SeqCst) {
             return Some(Err(lost_earlier()));
         }
         if is_covered(own.last.load(Ordering::SeqCst), covered) {
@@ -190,11 +203,7 @@ impl<F: BackingFile> SharedFile<F> {
         if let Some(known) = self.known(own) {
             return known;
         }
-        let done = self.sync_file();
-        if done.is_err() {
-            own.has_lost.store(false, Ordering::SeqCst);
-        }
-        done
+        self.sync_file()
     }
 
     /// Syncs the file while no other sync runs. A failure is told to each user that wrote.
@@ -212,7 +221,7 @@ impl<F: BackingFile> SharedFile<F> {
     fn mark_users(&self) {
         let covered = self.covered.load(Ordering::SeqCst);
         for user in &self.users {
-            let is_writing = user.is_writing.load(Ordering::SeqCst);
+            let is_writing = user.writing.load(Ordering::SeqCst) != 0;
             if may_have_lost(is_writing, user.last.load(Ordering::SeqCst), covered) {
                 user.has_lost.store(true, Ordering::SeqCst);
             }
