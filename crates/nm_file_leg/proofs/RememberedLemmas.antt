@@ -1,11 +1,11 @@
 -- What a leg remembers of its regions, as numbers in places.
-use Rattle.std.proofs.Common.{◌≡◌, ⊎_elim, ◌⊎◌, ℕ, zero, suc, ◌+◌, ◌-◌, ◌*◌, ◌/◌, ◌<◌, ◌≤◌, ◌==◌, ◌&&◌, ◌||◌, if◌then◌else◌, Bool, true, false, List, length, get_or, map, replicate, refl, ap, sym, ◌∙◌, subst, arith, nat_le, inl, inr}
+use Rattle.std.proofs.Common.{◌≡◌, ⊎_elim, ◌⊎◌, ℕ, zero, suc, ◌+◌, ◌-◌, ◌*◌, ◌/◌, ◌<◌, ◌≤◌, ◌&&◌, ◌||◌, if◌then◌else◌, Bool, true, false, List, length, get_or, map, replicate, refl, ap, sym, ◌∙◌, subst, arith, nat_le, nat_lt, inl, inr}
 use Rattle.std.proofs.Math.Nat.{div-mul-le_self}
 use Rattle.std.proofs.lemmas.Nat.{le-div, mul-le}
-use Rattle.std.proofs.lemmas.Bool.{cases_lt, le-leb, lt-leb, eq-eqb, ne_eqb}
+use Rattle.std.proofs.lemmas.Bool.{cases_lt, le-leb, lt-leb, lt-ltb, le-ltb}
 use Rattle.std.proofs.lemmas.List.{get_or-map, get_or-replicate, length-replicate}
 use Rattle.nm_geometry.specs.Geometry.{regions_for}
-use Rattle.nm_file_leg.specs.Remembered.{Remembered, remembered, count_regions, is_written, cursor_in, cursor_lost, cursors_lost, cursor_moved, learnt, touches, Changes, Begins, NotesWrite, NotesSync, LearnsLoss}
+use Rattle.nm_file_leg.specs.Remembered.{Remembered, Periods, IsInPeriod, remembered, count_regions, is_written, cursor_in, cursor_lost, cursors_lost, cursor_moved, learnt, touches, Changes, Begins, NotesWrite, NotesSync, LearnsLoss}
 
 -- a region begins inside the stripe
 pub begins-inside : (region blocks r : ℕ) → 1 ≤ region → r < regions_for region blocks → r * region < blocks
@@ -38,8 +38,8 @@ region-inside region blocks at some low =
     le-div (at / region + 1) (blocks + region - 1) region some (omega (arith, whole, spread, low, some))
 
 -- whether a region was written is told by the period of its last write
-pub written-in : (period r : ℕ) (xs : List ℕ) → r < length xs → get_or (map (λ last. last == period) xs) r false ≡ (get_or xs r 0 == period)
-written-in period r xs low = get_or-map (λ last. last == period) xs r 0 false low
+pub written-in : (covered r : ℕ) (xs : List ℕ) → r < length xs → get_or (map (λ last. nat_lt covered last) xs) r false ≡ nat_lt covered (get_or xs r 0)
+written-in covered r xs low = get_or-map (λ last. nat_lt covered last) xs r 0 false low
 
 -- a place lies between two others, or not
 pub between : (from last r : ℕ) → (((nat_le from r && nat_le r last) ≡ true) × ((from ≤ r) × (r < last + 1))) ⊎ (((nat_le from r && nat_le r last) ≡ false) × ((r < from) ⊎ (last + 1 ≤ r)))
@@ -54,53 +54,78 @@ between from last r =
     (cases_lt r from)
 
 -- a leg as it is made
-pub begins : (region blocks regions : ℕ) → regions ≡ regions_for region blocks → Begins region blocks (remembered region blocks 0 (replicate regions 0) (replicate regions blocks))
+pub begins : (region blocks regions : ℕ) → regions ≡ regions_for region blocks → Begins region blocks (remembered region blocks (record { running = 1; covered = 0 }) (replicate regions 1) (replicate regions blocks))
 begins region blocks regions is = record {
   region_is = refl;
   blocks_is = refl;
   written = λ r low.
       let inside : r < regions = omega (arith, is, low) in
-      let zeroes : List ℕ = replicate regions 0 in
-      let long : length zeroes ≡ regions = length-replicate regions 0 in
-      written-in 0 r zeroes (omega (arith, long, inside)) ∙ ap (λ (n : ℕ). n == 0) (get_or-replicate regions r 0 0 inside);
+      let ones : List ℕ = replicate regions 1 in
+      let long : length ones ≡ regions = length-replicate regions 1 in
+      written-in 0 r ones (omega (arith, long, inside)) ∙ ap (λ (n : ℕ). nat_lt 0 n) (get_or-replicate regions r 1 0 inside);
   whole = λ r low. get_or-replicate regions r blocks 0 (omega (arith, is, low));
 }
 
 -- a sync that succeeded
-pub notes-sync : (region blocks period next : ℕ) (xs ys cursors : List ℕ) → length ys ≡ regions_for region blocks
-    → ((r : ℕ) → r < regions_for region blocks → get_or ys r 0 < next)
-    → NotesSync (remembered region blocks period xs cursors) (remembered region blocks next ys cursors)
-notes-sync region blocks period next xs ys cursors long later = record {
+pub notes-sync : (region blocks : ℕ) (old new : Periods) (xs ys cursors : List ℕ) → length ys ≡ regions_for region blocks
+    → ((r : ℕ) → r < regions_for region blocks → get_or ys r 0 ≤ new.covered)
+    → NotesSync (remembered region blocks old xs cursors) (remembered region blocks new ys cursors)
+notes-sync region blocks old new xs ys cursors long later = record {
   sizes = record { region = refl; blocks = refl };
-  written = λ r low. written-in next r ys (omega (arith, long, low)) ∙ ne_eqb (get_or ys r 0) next (λ same. omega (arith, same, later r low));
+  written = λ r low. written-in new.covered r ys (omega (arith, long, low)) ∙ le-ltb new.covered (get_or ys r 0) (later r low);
   again = λ r _. refl;
 }
 
+-- whether regions were written once a write of a run is noted
+pub noted : (region blocks : ℕ) (periods : Periods) (at count : ℕ) (xs ys cursors moved : List ℕ)
+    → periods.covered < periods.running → length xs ≡ regions_for region blocks
+    → Changes (λ _. periods.running) (at / region) ((at + count - 1) / region + 1) xs ys
+    → (r : ℕ) → r < regions_for region blocks
+    → is_written r (remembered region blocks periods ys moved)
+    ≡ (touches at count r (remembered region blocks periods xs cursors) || is_written r (remembered region blocks periods xs cursors))
+noted region blocks periods at count xs ys cursors moved uncovered long puts r low =
+    let from = at / region in
+    let last = (at + count - 1) / region in
+    let covered = periods.covered in
+    let old : get_or (map (λ last. nat_lt covered last) xs) r false ≡ nat_lt covered (get_or xs r 0) = written-in covered r xs (omega (arith, long, low)) in
+    let new : get_or (map (λ last. nat_lt covered last) ys) r false ≡ nat_lt covered (get_or ys r 0) = written-in covered r ys (omega (arith, long, puts.length_is, low)) in
+    ⊎_elim
+    (λ w. new ∙ rw w.0 (lt-ltb covered (get_or ys r 0) (omega (arith, uncovered, puts.changed r w.1.0 w.1.1))))
+    (λ w.
+    let same : get_or ys r 0 ≡ get_or xs r 0 = ⊎_elim (λ low. puts.before r low) (λ high. puts.behind r high) w.1 in
+    new ∙ ap (λ (n : ℕ). nat_lt covered n) same ∙ rw w.0 (sym old))
+    (between from last r)
+
 -- a write of a run
-pub notes-write : (region blocks period at count end : ℕ) (succeeded : Bool) (xs ys cursors moved : List ℕ)
-    → length xs ≡ regions_for region blocks → end ≡ (if succeeded then at + count else at)
-    → Changes (λ _. period) (at / region) ((at + count - 1) / region + 1) xs ys
+pub notes-write : (region blocks : ℕ) (periods : Periods) (at count end : ℕ) (succeeded : Bool) (xs ys cursors moved : List ℕ)
+    → periods.covered < periods.running → length xs ≡ regions_for region blocks → end ≡ (if succeeded then at + count else at)
+    → Changes (λ _. periods.running) (at / region) ((at + count - 1) / region + 1) xs ys
     → Changes (cursor_moved at end) (at / region) ((at + count - 1) / region + 1) cursors moved
-    → NotesWrite succeeded at count (remembered region blocks period xs cursors) (remembered region blocks period ys moved)
-notes-write region blocks period at count end succeeded xs ys cursors moved long is puts moves = record {
+    → NotesWrite succeeded at count (remembered region blocks periods xs cursors) (remembered region blocks periods ys moved)
+notes-write region blocks periods at count end succeeded xs ys cursors moved uncovered long is puts moves = record {
   sizes = record { region = refl; blocks = refl };
-  written = λ r low.
-      let from = at / region in
-      let last = (at + count - 1) / region in
-      let old : get_or (map (λ last. last == period) xs) r false ≡ (get_or xs r 0 == period) = written-in period r xs (omega (arith, long, low)) in
-      let new : get_or (map (λ last. last == period) ys) r false ≡ (get_or ys r 0 == period) = written-in period r ys (omega (arith, long, puts.length_is, low)) in
-      ⊎_elim
-      (λ w. new ∙ rw w.0 (eq-eqb (get_or ys r 0) period (puts.changed r w.1.0 w.1.1)))
-      (λ w.
-      let same : get_or ys r 0 ≡ get_or xs r 0 = ⊎_elim (λ low. puts.before r low) (λ high. puts.behind r high) w.1 in
-      new ∙ ap (λ (n : ℕ). n == period) same ∙ rw w.0 (sym old))
-      (between from last r);
+  written = λ r low. noted region blocks periods at count xs ys cursors moved uncovered long puts r low;
   again = λ r low.
       let from = at / region in
       let last = (at + count - 1) / region in
       ⊎_elim
       (λ w. rw w.0 (moves.changed r w.1.0 w.1.1 ∙ ap (λ (e : ℕ). cursor_moved at e (get_or cursors r 0)) is))
       (λ w. rw w.0 (⊎_elim (λ low. moves.before r low) (λ high. moves.behind r high) w.1))
+      (between from last r);
+}
+
+-- and it is of the period that runs
+pub in-period : (region blocks : ℕ) (periods : Periods) (at count : ℕ) (xs ys cursors moved : List ℕ)
+    → Changes (λ _. periods.running) (at / region) ((at + count - 1) / region + 1) xs ys
+    → IsInPeriod at count (remembered region blocks periods xs cursors) (remembered region blocks periods ys moved)
+in-period region blocks periods at count xs ys cursors moved puts = record {
+  running = refl;
+  last = λ r low.
+      let from = at / region in
+      let last = (at + count - 1) / region in
+      ⊎_elim
+      (λ w. rw w.0 (puts.changed r w.1.0 w.1.1))
+      (λ w. rw w.0 (⊎_elim (λ low. puts.before r low) (λ high. puts.behind r high) w.1))
       (between from last r);
 }
 

@@ -1,22 +1,34 @@
 -- What a leg remembers of its regions, and what becomes of it.
-use Rattle.std.specs.Prelude.{◌≡◌, ℕ, zero, suc, ◌+◌, ◌-◌, ◌*◌, ◌/◌, ◌<◌, ◌≤◌, ◌==◌, ◌&&◌, ◌||◌}
+use Rattle.std.specs.Prelude.{◌≡◌, ℕ, zero, suc, ◌+◌, ◌-◌, ◌*◌, ◌/◌, ◌<◌, ◌≤◌, ◌&&◌, ◌||◌}
 use Rattle.std.specs.Prelude.{min}
 use Rattle.std.specs.Prelude.{if◌then◌else◌, Bool, IsTrue, IsFalse, nat_le, nat_lt, get_or}
 use Rattle.std.specs.Prelude.{◌^◌, List, [], ◌∷◌, length, map, false, true}
 use Rattle.nm_geometry.specs.Geometry.{regions_for}
 
 -- The numbers of blocks in a region and in the stripe; whether each region was written since the
--- last sync that succeeded; and of each region the first block that was not written again since a
--- sync failed: a block behind its end, where nothing of it is lost.
+-- last sync that succeeded; of each region the first block that was not written again since a sync
+-- failed: a block behind its end, where nothing of it is lost; and the period that runs, which ends
+-- as a sync begins, with of each region the period of its last write.
 pub record Remembered : Type 0 where
   pub region : ℕ
   pub blocks : ℕ
   pub written : List Bool
   pub rewritten_below : List ℕ
+  pub running : ℕ
+  pub last : List ℕ
+
+-- the period that runs, and the last one that a good sync covers
+pub record Periods : Type 0 where
+  pub running : ℕ
+  pub covered : ℕ
 
 -- whether a region was written since the last sync that succeeded
 abbrev pub is_written : (region : ℕ) → Remembered → Bool
 is_written region memory = get_or memory.written region false
+
+-- the period of a region's last write
+abbrev pub last_in : (region : ℕ) → Remembered → ℕ
+last_in region memory = get_or memory.last region 0
 
 -- the first block of a region that was not written again
 abbrev pub cursor_in : (region : ℕ) → Remembered → ℕ
@@ -27,14 +39,16 @@ abbrev pub count_regions : Remembered → ℕ
 count_regions memory = regions_for memory.region memory.blocks
 
 -- what is kept of the regions stands for this: a region was written since then if its last write is
--- of the period that runs
-abbrev pub remembered : (region blocks period : ℕ) → (written_in rewritten_below : List ℕ)
+-- of a later period than a good sync covers
+abbrev pub remembered : (region blocks : ℕ) → Periods → (written_in rewritten_below : List ℕ)
     → Remembered
-remembered region blocks period written_in rewritten_below = record {
+remembered region blocks periods written_in rewritten_below = record {
   region = region;
   blocks = blocks;
-  written = map (λ last. last == period) written_in;
+  written = map (λ last. nat_lt periods.covered last) written_in;
   rewritten_below = rewritten_below;
+  running = periods.running;
+  last = written_in;
 }
 
 -- the block behind the last one of a region
@@ -58,6 +72,11 @@ pub record WritesOne (from until : ℕ) (memory : Remembered) : Type 0 where
   pub above : from ≤ region
   pub below : region < until
   pub written : IsTrue (is_written region memory)
+
+-- a run, of some blocks, lies in the stripe
+pub record HasRun (at count : ℕ) (memory : Remembered) : Type 0 where
+  pub some : 0 < count
+  pub inside : at + count ≤ memory.blocks
 
 -- a run of so many blocks has some in this region
 abbrev pub touches : (at count region : ℕ) → Remembered → Bool
@@ -90,6 +109,38 @@ pub record NotesWrite (succeeded : Bool) (at count : ℕ) (old new : Remembered)
       → cursor_in r new ≡ (if touches at count r old
       then cursor_moved at (if succeeded then at + count else at) (cursor_in r old)
       else cursor_in r old)
+
+-- A write is one of the period that runs.
+pub record IsInPeriod (at count : ℕ) (old new : Remembered) : Type 0 where
+  pub running : new.running ≡ old.running
+  pub last : (r : ℕ) → r < count_regions old
+      → last_in r new ≡ (if touches at count r old then old.running else last_in r old)
+
+-- A sync begins, and covers what was written up to a period. At the greatest number the periods
+-- begin anew, and all counts as written.
+pub record BeginsSync (asked : ℕ) (old new : Remembered) : Type 0 where
+  pub sizes : HaveOneSize old new
+  pub later : asked < new.running
+  pub written : (r : ℕ) → r < count_regions old → IsTrue (is_written r old)
+      → IsTrue (is_written r new)
+  pub again : (r : ℕ) → r < count_regions old → cursor_in r new ≡ cursor_in r old
+  pub next : old.running < 2 ^ 32 - 1
+      → (asked ≡ old.running) × (new ≡ record old { running = old.running + 1 })
+
+-- A sync that began in a period has succeeded: a region stays written only if it was written since.
+pub record EndsSync (asked : ℕ) (old new : Remembered) : Type 0 where
+  pub sizes : HaveOneSize old new
+  pub written : (r : ℕ) → r < count_regions old
+      → is_written r new ≡ (is_written r old && nat_lt asked (last_in r old))
+  pub again : (r : ℕ) → r < count_regions old → cursor_in r new ≡ cursor_in r old
+
+-- A write of a run may be lost: its regions are written, and lost from their first blocks on.
+pub record LosesWrite (at count : ℕ) (old new : Remembered) : Type 0 where
+  pub sizes : HaveOneSize old new
+  pub written : (r : ℕ) → r < count_regions old
+      → is_written r new ≡ (touches at count r old || is_written r old)
+  pub again : (r : ℕ) → r < count_regions old → cursor_in r new
+      ≡ (if touches at count r old then r * old.region else cursor_in r old)
 
 -- A sync that succeeded: no region was written since.
 pub record NotesSync (old new : Remembered) : Type 0 where
@@ -132,18 +183,19 @@ learnt true memory = record memory {
   rewritten_below = cursors_lost memory (count_regions memory) 0;
 }
 
--- The numbers are of so many regions, no write is of a period to come, and while no sync has failed
--- nothing is lost.
-pub record IsKept (region blocks period : ℕ) (written_in rewritten_below : List ℕ)
+-- The numbers are of so many regions, no write is of a period to come, the period that runs is not
+-- covered, and while no sync has failed nothing is lost.
+pub record IsKept (region blocks : ℕ) (times : Periods) (written_in rewritten_below : List ℕ)
     (has_failed : Bool) : Type 0 where
   pub some : 1 ≤ region
   pub most : region ≤ 65536
   pub few : blocks ≤ 2 ^ 31
   pub periods : length written_in ≡ regions_for region blocks
   pub cursors : length rewritten_below ≡ regions_for region blocks
-  pub past : (r : ℕ) → r < regions_for region blocks → get_or written_in r 0 ≤ period
+  pub past : (r : ℕ) → r < regions_for region blocks → get_or written_in r 0 ≤ times.running
+  pub uncovered : times.covered < times.running
   pub whole : IsFalse has_failed → AreWhole 0 (regions_for region blocks)
-      (remembered region blocks period written_in rewritten_below)
+      (remembered region blocks times written_in rewritten_below)
 
 -- numbers are changed from one place up to another, and no others
 pub record Changes (change : ℕ → ℕ) (from until : ℕ) (old new : List ℕ) : Type 0 where

@@ -34,13 +34,13 @@ pub invariant_of-self : goal.invariant_of-self
 invariant_of-self g c =
     let leg = c.args.self.now in
     let inside : c.args.at + length c.args.bytes.now / 512 ≤ stripe_blocks leg.stripe leg.shape = omega (arith, c.requires.inside, length-blocks_from leg.stripe leg.shape 0 (stripe_blocks leg.stripe leg.shape) (g.M.Medium.held leg.medium).contents) in
-    record { bounds = leg.bounds; inside = leg.inside; owns = owns-kept _ leg.stripe leg.shape (g.M.Medium.held leg.medium) (g.M.Medium.held c.write_if_long-is_written.new.medium) c.write_if_long-is_written.ensures.writes.own leg.owns; rules = rules-write _ _ leg.stripe leg.shape c.learn_loss.new.writes leg.dirty leg.bounds (rules-told _ (g.M.Medium.held leg.medium) leg.stripe leg.shape leg.writes leg.dirty leg.bounds leg.rules c.tells_loss-self.result c.learn_loss.new.writes c.learn_loss.ensures) _ c.args.at c.args.bytes.now _ _ leg.inside inside c.note_write.ensures c.write_if_long-is_written.ensures.writes }
+    record { bounds = leg.bounds; inside = leg.inside; owns = owns-kept _ leg.stripe leg.shape (g.M.Medium.held leg.medium) (g.M.Medium.held c.write_if_long-is_written.new.medium) c.write_if_long-is_written.ensures.writes.own leg.owns; rules = rules-write _ _ leg.stripe leg.shape c.learn_loss.new.writes leg.dirty leg.bounds (rules-told _ (g.M.Medium.held leg.medium) leg.stripe leg.shape leg.writes leg.dirty leg.bounds leg.rules c.tells_loss-self.result c.learn_loss.new.writes c.learn_loss.ensures) _ c.args.at c.args.bytes.now _ _ leg.inside inside c.note_write.ensures.notes c.write_if_long-is_written.ensures.writes }
 
 pub invariant_of-self-else-not-is_written : goal.invariant_of-self-else-not-is_written
 invariant_of-self-else-not-is_written g c =
     let leg = c.args.self.now in
     let inside : c.args.at + length c.args.bytes.now / 512 ≤ stripe_blocks leg.stripe leg.shape = omega (arith, c.requires.inside, length-blocks_from leg.stripe leg.shape 0 (stripe_blocks leg.stripe leg.shape) (g.M.Medium.held leg.medium).contents) in
-    record { bounds = leg.bounds; inside = leg.inside; owns = owns-kept _ leg.stripe leg.shape (g.M.Medium.held leg.medium) (g.M.Medium.held c.write_if_long-is_written.new.medium) c.write_if_long-is_written.ensures.writes.own leg.owns; rules = rules-write _ _ leg.stripe leg.shape c.learn_loss.new.writes leg.dirty leg.bounds (rules-told _ (g.M.Medium.held leg.medium) leg.stripe leg.shape leg.writes leg.dirty leg.bounds leg.rules c.tells_loss-self.result c.learn_loss.new.writes c.learn_loss.ensures) _ c.args.at c.args.bytes.now _ _ leg.inside inside c.note_write.ensures c.write_if_long-is_written.ensures.writes }
+    record { bounds = leg.bounds; inside = leg.inside; owns = owns-kept _ leg.stripe leg.shape (g.M.Medium.held leg.medium) (g.M.Medium.held c.write_if_long-is_written.new.medium) c.write_if_long-is_written.ensures.writes.own leg.owns; rules = rules-write _ _ leg.stripe leg.shape c.learn_loss.new.writes leg.dirty leg.bounds (rules-told _ (g.M.Medium.held leg.medium) leg.stripe leg.shape leg.writes leg.dirty leg.bounds leg.rules c.tells_loss-self.result c.learn_loss.new.writes c.learn_loss.ensures) _ c.args.at c.args.bytes.now _ _ leg.inside inside c.note_write.ensures.notes c.write_if_long-is_written.ensures.writes }
 
 pub returns-then-not-is_written-clause-writes : goal.returns-then-not-is_written-clause-writes
 returns-then-not-is_written-clause-writes g c =
@@ -58,11 +58,11 @@ returns-then-not-is_written-clause-noted g c =
     let old = c.args.self.now.writes in
     let failed : c.write_if_long-is_written.result ≡ false = search rules in
     subst (λ (b : Bool). NotesWrite b c.args.at (length c.args.bytes.now / 512) (learnt c.tells_loss-self.result old) c.note_write.new.self) failed
-    (notes-learnt c.tells_loss-self.result c.write_if_long-is_written.result c.args.at (length c.args.bytes.now / 512) old c.learn_loss.new.writes c.note_write.new.self c.learn_loss.ensures c.note_write.ensures)
+    (notes-learnt c.tells_loss-self.result c.write_if_long-is_written.result c.args.at (length c.args.bytes.now / 512) old c.learn_loss.new.writes c.note_write.new.self c.learn_loss.ensures c.note_write.ensures.notes)
 
 pub returns-clause-noted : goal.returns-clause-noted
 returns-clause-noted g c =
     let old = c.args.self.now.writes in
     let done : c.write_if_long-is_written.result ≡ true = search rules in
     subst (λ (b : Bool). NotesWrite b c.args.at (length c.args.bytes.now / 512) (learnt c.tells_loss-self.result old) c.note_write.new.self) done
-    (notes-learnt c.tells_loss-self.result c.write_if_long-is_written.result c.args.at (length c.args.bytes.now / 512) old c.learn_loss.new.writes c.note_write.new.self c.learn_loss.ensures c.note_write.ensures)
+    (notes-learnt c.tells_loss-self.result c.write_if_long-is_written.result c.args.at (length c.args.bytes.now / 512) old c.learn_loss.new.writes c.note_write.new.self c.learn_loss.ensures c.note_write.ensures.notes)

@@ -1,6 +1,6 @@
 -- A region that is looked at and passed was not written.
-use Rattle.std.proofs.Common.{rules, ◌≡◌, ⊎_elim, ℕ, ◌<◌, ◌≤◌, ◌==◌, false, IsFalse, get_or, length, sym, ◌∙◌, subst, arith}
-use Rattle.std.proofs.lemmas.Bool.{cases_lt, ne_eqb}
+use Rattle.std.proofs.Common.{rules, ◌≡◌, ⊎_elim, ℕ, ◌<◌, ◌≤◌, nat_lt, false, IsFalse, get_or, length, sym, ◌∙◌, subst, arith}
+use Rattle.std.proofs.lemmas.Bool.{cases_lt, le-ltb}
 use Rattle.std.proofs.lemmas.Option.{same_Some, slice_get-get_or}
 use Rattle.nm_file_leg.specs.Remembered.{Remembered, is_written}
 use Rattle.nm_file_leg.proofs.RememberedLemmas.{written-in}
@@ -13,9 +13,9 @@ loop-region-preserved c =
     let inside : at < length numbers = search rules in
     let number : get_or numbers at 0 ≡ c.index.result.now =
     same_Some _ _ (sym (slice_get-get_or numbers at 0 inside) ∙ slice_get-get_or numbers at c.index.result.now inside) ∙ sym c.index.ensures in
-    let other : (get_or numbers at 0 == c.self.inside.period) ≡ false = ne_eqb (get_or numbers at 0) c.self.inside.period (λ e. c.if-index-self.false (sym number ∙ e)) in
+    let other : nat_lt c.self.inside.covered (get_or numbers at 0) ≡ false = le-ltb c.self.inside.covered (get_or numbers at 0) (omega (arith, number, c.if-self-index.false)) in
     let here : IsFalse (is_written at c.args.self.now) =
-    subst (λ (memory : Remembered). IsFalse (is_written at memory)) c.self.view_is (written-in c.self.inside.period at numbers inside ∙ other) in
+    subst (λ (memory : Remembered). IsFalse (is_written at memory)) c.self.view_is (written-in c.self.inside.covered at numbers inside ∙ other) in
     record {
       behind = omega (arith, c.loop-region.invariant.behind);
       none = λ region above below.
