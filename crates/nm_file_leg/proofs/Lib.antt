@@ -1,4 +1,5 @@
 pub mod BlockLemmas
+pub mod CalledLemmas
 pub mod LegLemmas
 pub mod MarkLemmas
 pub mod MediaLemmas
@@ -7,6 +8,7 @@ pub mod PlaceLemmas
 pub mod RememberedLemmas
 pub mod RuleLemmas
 pub mod RunLemmas
+pub mod StandingLemmas
 pub mod StepLemmas
 pub mod WindowLemmas
 mod Worked

@@ -123,17 +123,17 @@ writes-longer honest places part bytes old new most writes = record {
 
 -- the blocks of two runs one after the other
 module _ (front back : List ℕ) (whole : length front ≡ 512 * blocks_in front) (rest : length back ≡ 512 * blocks_in back) where
-  both : blocks_in (front ++ back) ≡ blocks_in front + blocks_in back
+  pub both : blocks_in (front ++ back) ≡ blocks_in front + blocks_in back
   both = omega (arith, whole, rest, length-append front back)
 
-  of-front : (number : ℕ) → number < blocks_in front → bytes_of number (front ++ back) ≡ bytes_of number front
+  pub of-front : (number : ℕ) → number < blocks_in front → bytes_of number (front ++ back) ≡ bytes_of number front
   unfolding window
   of-front number low =
       let inside : 512 * number ≤ length front = omega (arith, low, whole) in
       let long : 512 ≤ length (drop (512 * number) front) = omega (arith, low, whole, length-drop (512 * number) front) in
       ap (λ (ys : List ℕ). take 512 ys) (drop-append-le (512 * number) front back inside) ∙ take-append-le 512 (drop (512 * number) front) back long
 
-  of-back : (number : ℕ) → bytes_of (blocks_in front + number) (front ++ back) ≡ bytes_of number back
+  pub of-back : (number : ℕ) → bytes_of (blocks_in front + number) (front ++ back) ≡ bytes_of number back
   unfolding window
   of-back number =
       let e : length front + 512 * number ≡ 512 * (blocks_in front + number) = omega (arith, whole) in
@@ -142,7 +142,7 @@ module _ (front back : List ℕ) (whole : length front ≡ 512 * blocks_in front
       ∙ ap (λ (ys : List ℕ). drop (512 * number) ys) (drop_at front back (length front) refl))
 
   -- the places of the second
-  next-place : (s : ℕ) (p : Geometry) (at number : ℕ) → run_places s p (at + blocks_in front) number ≡ run_places s p at (blocks_in front + number)
+  pub next-place : (s : ℕ) (p : Geometry) (at number : ℕ) → run_places s p (at + blocks_in front) number ≡ run_places s p at (blocks_in front + number)
   next-place s p at number = ap (λ (k : ℕ). first_byte s p k) (let e : at + blocks_in front + number ≡ at + (blocks_in front + number) = omega arith in e)
 
   pub reads-join : (honest succeeded : Bool) (s : ℕ) (p : Geometry) (at : ℕ) (old mid new : Held)

@@ -24,13 +24,13 @@ one-call at done many region bytes some inside whole run is =
     record { some = omega (arith, is, inside, low); fits = omega (arith, is, inside); blocks = omega (arith, is, whole, run); short = omega (arith, is, low) }
 
 -- the first bytes, where a part behind them is changed
-front-and-part : (done many : ℕ) (front part rest : List ℕ) → length front ≡ done → length part ≡ many → take (done + many) (front ++ (part ++ rest)) ≡ front ++ part
+pub front-and-part : (done many : ℕ) (front part rest : List ℕ) → length front ≡ done → length part ≡ many → take (done + many) (front ++ (part ++ rest)) ≡ front ++ part
 front-and-part done many front part rest long size =
     let both : length (front ++ part) ≡ done + many = omega (arith, length-append front part, long, size) in
     ap (λ (ys : List ℕ). take (done + many) ys) (sym (append_assoc front part rest)) ∙ take_at (front ++ part) rest (done + many) both
 
 -- the first bytes, and so many more
-front-and-more : (done many : ℕ) (bytes : List ℕ) → done + many ≤ length bytes → take (done + many) bytes ≡ take done bytes ++ take many (drop done bytes)
+pub front-and-more : (done many : ℕ) (bytes : List ℕ) → done + many ≤ length bytes → take (done + many) bytes ≡ take done bytes ++ take many (drop done bytes)
 front-and-more done many bytes inside =
     let long : length (take done bytes) ≡ done = length-take-le done bytes (omega (arith, inside)) in
     let size : length (take many (drop done bytes)) ≡ many = length-take-le many (drop done bytes) (omega (arith, inside, length-drop done bytes)) in

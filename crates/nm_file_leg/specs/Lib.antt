@@ -1,4 +1,5 @@
 pub mod Blocks
+pub mod Called
 pub mod FileLeg
 pub mod Look
 pub mod Media
@@ -6,3 +7,4 @@ pub mod Marks
 pub mod Medium
 pub mod Remembered
 pub mod Runs
+pub mod Standing

@@ -13,7 +13,7 @@ use nm_replay::BLOCK_BYTES;
 use std::io;
 
 /// Where a block of the stripe begins in the medium.
-fn first_byte(shape: &Shape, stripe: u32, block: u64) -> u64
+pub(crate) fn first_byte(shape: &Shape, stripe: u32, block: u64) -> u64
     requires shape { IsGeometry shape.now }
     requires stripe { stripe < shape.now.stripes }
     requires block { block < stripe_blocks stripe shape.now }
@@ -23,7 +23,7 @@ fn first_byte(shape: &Shape, stripe: u32, block: u64) -> u64
 }
 
 /// How many of so many bytes, from this block on, lie in its region.
-fn bytes_in_region(shape: &Shape, block: u64, bytes: usize) -> usize
+pub(crate) fn bytes_in_region(shape: &Shape, block: u64, bytes: usize) -> usize
     requires shape { IsGeometry shape.now }
     ensures { result ≡ min bytes (512 * (shape.now.region - block % shape.now.region)) }
 {
