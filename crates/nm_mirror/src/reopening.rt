@@ -60,7 +60,8 @@ impl<L: LegPart, G: Gate + Drop, J: Naming> Mirror<L, G, J> {
         policy: Policy,
     ) -> Reopened
         requires { stripe < self.now.shape.stripes }
-        ensures { EndsReopening J.Naming.own (place_of stripe self.now.shape) legs.items policy result }
+        ensures { EndsReopening J.Naming.own (place_of stripe self.now.shape) legs.items policy
+            result }
     {
         within_bounds(&self.shape);
         if !self.has_stopped(rt, stripe) {

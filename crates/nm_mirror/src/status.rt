@@ -1,7 +1,8 @@
 //! What each stripe is doing.
 ghost use Rattle.std.specs.Prelude.{◌≡◌, ◌<◌, length, IfOk};
 ghost use Rattle.nm_leg.specs.Leg.{leg_type};
-ghost use Rattle.nm_mirror.specs.Status.{AreLegs, EachTellsAt, IsStatus, KeepsAt, OnlySees, TellsAt};
+ghost use Rattle.nm_mirror.specs.Status.{AreLegs, EachTellsAt, IsStatus, KeepsAt};
+ghost use Rattle.nm_mirror.specs.Status.{OnlySees, TellsAt};
 
 use crate::mirror::Mirror;
 use crate::trail::LogPass;

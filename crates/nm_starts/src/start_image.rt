@@ -1,6 +1,7 @@
 //! The image that a start opens the legs by: a mirror's first one, or that of its superblocks.
 ghost use Rattle.std.specs.Prelude.{◌≡◌, ◌<◌, IfOk, max, min};
-ghost use Rattle.nm_starts.specs.StartImage.{GoesOnWith, GoesOnWithAll, IsFirstOf, IsFirstOver, IsNewOf};
+ghost use Rattle.nm_starts.specs.StartImage.{GoesOnWith, GoesOnWithAll, IsFirstOf};
+ghost use Rattle.nm_starts.specs.StartImage.{IsFirstOver, IsNewOf};
 ghost use Rattle.nm_starts.specs.StartImage.{OpensBy, equal_legs, span_regions_for};
 
 use crate::adding::{check_added, check_known};
