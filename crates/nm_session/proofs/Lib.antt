@@ -13,3 +13,4 @@ pub mod Reading
 pub mod Events
 pub mod ReadEvents
 pub mod Buffers
+pub mod Following

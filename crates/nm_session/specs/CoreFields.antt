@@ -1,5 +1,5 @@
 -- What a core's fields say of the session.
-use Rattle.std.specs.Prelude.{◌≡◌, ◌≢◌, ◌<◌, ◌≤◌, None, All, vec_len, vec_capacity}
+use Rattle.std.specs.Prelude.{◌≡◌, ◌≢◌, ◌<◌, ◌≤◌, ◌++◌, None, All, vec_len, vec_capacity}
 use Rattle.nm_haggle.specs.Haggling.{IsOver}
 use Rattle.nm_session.specs.declared.session_core.SessionCore.TheInside.{Inside}
 use Rattle.nm_session.specs.declared.stage.Stage.TheVariants as stage
@@ -13,7 +13,7 @@ session_in core = record {
   rest = core.reader.rest;
   count = core.reader.count;
   outstanding = core.outstanding.items;
-  out = core.out.items;
+  out = core.out.items ++ core.long.items;
 }
 
 -- while the session goes on its reader has stopped at no fault, and while it haggles the haggling

@@ -3,8 +3,9 @@ ghost use Rattle.std.specs.Prelude.{◌≡◌, ◌≤◌, sum_by, vec_len, vec_c
 use nm_requests::Task;
 use std::alloc::Global;
 
-// A shorter buffer is not used again: to fill a new one with zeroes takes hardly any time.
-const LEAST: usize = 16 * 1024;
+/// How many bytes a long READ asks for at least. Its buffer is used again, and its reply goes out
+/// from it. A shorter one is filled with zeroes, and copied, in hardly any time.
+pub const LONG_READ: usize = 16 * 1024;
 
 // Nor is one for a longer READ.
 const MOST: usize = 1024 * 1024;
@@ -60,11 +61,10 @@ impl BufferPool {
         Some(buffer)
     }
 
-    // Keeps a buffer whose bytes were sent, if it has such a length: as many as were taken. So one
-    // in which short replies gathered is not kept for a client that asks for no others.
+    // Keeps a buffer whose bytes were sent, if it has such a length: as many as were taken.
     #[tactic(auto, using(crate::proofs::Buffers::sum_of_both))]
     pub(crate) fn keep(&mut self, buffer: Vec<u8>) {
-        if self.lent == 0 || buffer.len() < LEAST {
+        if self.lent == 0 || buffer.len() < LONG_READ {
             return;
         }
         self.lent -= 1;
@@ -83,7 +83,7 @@ fn is_kept_for(task: Task) -> bool {
     match task {
         Task::Read { offset: _, length } => {
             let length = length as usize;
-            LEAST <= length && length <= MOST
+            LONG_READ <= length && length <= MOST
         }
         _ => false,
     }

@@ -23,6 +23,7 @@ pub use target_fault::TargetFault;
 mod buffer_pool;
 mod called;
 mod calling;
+mod chunks;
 mod cut_reader;
 mod cut_writer;
 mod dispatch;

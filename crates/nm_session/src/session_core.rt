@@ -1,11 +1,9 @@
-ghost use Rattle.std.specs.Prelude.{◌≡◌, ◌≢◌, ◌↔◌, ◌<◌, ◌≤◌, ◌+◌, ◌++◌, ◌⊎◌, ℕ, List, [], length};
-ghost use Rattle.std.specs.Prelude.{if◌then◌else◌, All};
+ghost use Rattle.std.specs.Prelude.{◌≡◌, ◌≢◌, ◌↔◌, ◌≤◌, ◌+◌, ◌++◌, ◌⊎◌, ℕ, List, [], length};
+ghost use Rattle.std.specs.Prelude.{All, vec_capacity};
 ghost use Rattle.nm_requests.specs.Message.{Message};
 ghost use Rattle.nm_requests.specs.Stream.{StartsWith};
 ghost use Rattle.nm_wire.specs.Sizes.{max_payload};
-ghost use Rattle.std.specs.Prelude.{slice_index_or, vec_capacity};
 ghost use Rattle.std.specs.Prelude.{IfOk, IfErr, IfSome, IfNone, OnOk, OnErr, IsTrue, IsFalse};
-ghost use Rattle.nm_session.specs.declared.ended_by.EndedBy.TheVariants as by;
 ghost use Rattle.nm_haggle.specs.Haggling.{greeting_bytes};
 ghost use Rattle.nm_session.specs.Session.{session_of, phase_at, IsSettled, LacksRoom};
 ghost use Rattle.nm_session.specs.Session.{HasRoom};
@@ -13,19 +11,18 @@ ghost use Rattle.nm_session.specs.Session as session;
 ghost use Rattle.nm_session.specs.Feeding.{Feeds, Responds, IsEnded};
 ghost use Rattle.nm_session.specs.Asking.{Answers, FitsAt};
 ghost use Rattle.nm_session.specs.Reading.{Reads, ReadsOn, RepliesItself, Tells};
-ghost use Rattle.nm_session.specs.declared.outstanding.Outstanding.{Outstanding};
 ghost use Rattle.nm_session.specs.declared.stage.Stage.TheVariants as stage;
 
 use crate::buffer_pool::BufferPool;
+use crate::chunks::{join, queue_outcome};
 use crate::dispatch::{
-    asked_by, dispatch, is_fit, is_same, judge_within, put_outcome, reply_length, stage_after,
-    sum_within,
+    asked_by, dispatch, is_fit, is_same, judge_within, reply_length, stage_after, sum_within,
 };
-use crate::ended_by::EndedBy;
+use crate::ended_by::{EndedBy, closed_by};
 use crate::limit::Limit;
 use crate::next::Next;
 use crate::outcome::Outcome;
-use crate::outstanding::Outstanding;
+use crate::outstanding::{Outstanding, find};
 use crate::phase::Phase;
 use crate::refused::Refused;
 use crate::stage::Stage;
@@ -52,7 +49,9 @@ pub struct SessionCore {
     outstanding: Vec<Outstanding>,
     // How many bytes the replies to the outstanding requests carry at most.
     asked: usize,
+    // The replies that gather, and behind them that of a long READ.
     out: Vec<u8>,
+    long: Vec<u8>,
     spare: BufferPool,
 }
 
@@ -90,6 +89,7 @@ impl SessionCore {
                 outstanding,
                 asked: 0,
                 out,
+                long: Vec::new(alloc),
                 spare: BufferPool::new(alloc),
             }),
             Err(_) => Err((Refused::Memory, export)),
@@ -152,6 +152,7 @@ impl SessionCore {
         if self.reader.reserve(alloc, piece.len()).is_err() {
             return Err(Refused::Memory);
         }
+        join(&mut self.out, &mut self.long)?;
         let Ok(step) = self.haggle.feed_into(alloc, &mut self.out, piece) else {
             return Err(Refused::Memory);
         };
@@ -201,6 +202,7 @@ impl SessionCore {
             return Ok(Some(Next::Full));
         }
         // A request that was read cannot be put back, so there must be room for its reply.
+        join(&mut self.out, &mut self.long)?;
         self.out.reserve(SimpleReply::BYTES)?;
         match self.reader.next(alloc) {
             Ok(None) => Ok(Some(Next::Starved)),
@@ -253,7 +255,7 @@ impl SessionCore {
     }
 
     /// Replies to the outstanding request with this index, by the outcome of its task. The data of
-    /// a READ are not copied where nothing else waits to go out.
+    /// a READ of 16 KiB or more are not copied unless those of another one wait to go out.
     pub fn answer(
         &mut self,
         _alloc: Global,
@@ -278,7 +280,7 @@ impl SessionCore {
             return Err((refused, outcome));
         };
         let cookie = self.outstanding[at].cookie;
-        if let Err(outcome) = put_outcome(&mut self.out, cookie, outcome) {
+        if let Err(outcome) = queue_outcome(&mut self.out, &mut self.long, cookie, outcome) {
             return Err((Refused::Memory, outcome));
         }
         let held = self.outstanding.remove(at);
@@ -286,13 +288,15 @@ impl SessionCore {
         Ok(())
     }
 
-    /// Takes the bytes that wait to go out, and leaves none; takes no memory.
-    pub fn take_out(&mut self) -> Vec<u8>
-        ensures bytes { result.items ≡ self.old.out }
+    /// Takes the bytes that wait to go out, and leaves none; takes no memory. They lie in two
+    /// chunks: the second one is the reply to a long READ, in the buffer that it was read into.
+    pub fn take_out(&mut self) -> (Vec<u8>, Vec<u8>)
+        ensures bytes { result.0.items ++ result.1.items ≡ self.old.out }
         ensures rest { self.new ≡ record self.old { out = [] } }
     {
         let alloc = *self.out.allocator();
-        mem::replace(&mut self.out, Vec::new(alloc))
+        let gathered = mem::replace(&mut self.out, Vec::new(alloc));
+        (gathered, mem::replace(&mut self.long, Vec::new(alloc)))
     }
 
     /// A buffer for this task, which `call` reads into: one that was kept, or an empty one.
@@ -313,7 +317,12 @@ impl SessionCore {
     pub fn waiting(&self) -> usize
         ensures { result ≡ length self.now.out }
     {
-        self.out.len()
+        self.out.len() + self.long.len()
+    }
+
+    /// Whether the reply to a long READ waits. What follows it is copied behind it.
+    pub fn has_long_reply(&self) -> bool {
+        !self.long.is_empty()
     }
 
     /// How many requests were read, a DISC among them: the index that the next one gets.
@@ -358,26 +367,6 @@ impl SessionCore {
             _ => None,
         }
     }
-}
-
-// What closed the haggling.
-fn closed_by(aborted: bool) -> EndedBy
-    ensures { result ≡ (if aborted then by.Abort else by.Protocol) }
-{
-    if aborted {
-        EndedBy::Abort
-    } else {
-        EndedBy::Protocol
-    }
-}
-
-// Where the outstanding request with this index stands.
-fn find(outstanding: &[Outstanding], index: u64) -> Option<usize>
-    ensures some { IfSome result (λ at. (at < length outstanding.now)
-        × ((other : Outstanding) → (slice_index_or outstanding.now at other).index ≡ index)) }
-    ensures none { IfNone result (All (λ held. held.index ≢ index) outstanding.now) }
-{
-    outstanding.iter().position(|held| held.index == index)
 }
 
 // Room for so many outstanding requests, and the greeting.

@@ -18,11 +18,17 @@ use std::sync::Wait;
 // How many messages a mailbox has room for.
 const WAITING: usize = 32;
 
-// From how many bytes of replies on they are sent before more outcomes are taken. So the reply to a
-// long READ mostly waits alone, and goes out from the buffer that it was read into.
-pub(crate) const GATHERED: usize = 64 * 1024;
+// From how many bytes of replies on they are sent before more outcomes are taken.
+const GATHERED: usize = 64 * 1024;
 
-// Waits for a message, and takes it and those that wait by then, up to about 64 KiB of replies.
+// Whether the replies that wait are to be sent before more are made: that to a long READ goes out
+// from the buffer that it was read into, and those that gathered with it.
+pub(crate) fn are_to_be_sent(core: &SessionCore) -> bool {
+    core.has_long_reply() || core.waiting() >= GATHERED
+}
+
+// Waits for a message, and takes it and those that wait by then, up to about 64 KiB of replies, or
+// the reply to a long READ.
 pub(crate) fn receive<R: Wait, C, T: Target + Drop>(
     rt: &R,
     alloc: Global,
@@ -49,7 +55,7 @@ pub(crate) fn receive<R: Wait, C, T: Target + Drop>(
         Err(fault) => return Err(fault),
     };
     'messages: for _ in 1..WAITING {
-        if core.waiting() >= GATHERED {
+        if are_to_be_sent(core) {
             return Ok(state);
         }
         let Some(message) = inbox.try_recv(rt) else {

@@ -15,7 +15,7 @@ ghost use Rattle.nm_workers.specs.Reading.{ReadsFurther, reader_of};
 
 use crate::dispatcher::{Dispatcher, hand_out};
 use crate::job::{Extent, JobResult};
-use crate::messages::{GATHERED, receive, settle};
+use crate::messages::{are_to_be_sent, receive, settle};
 use crate::pool::{WorkerPool, submit_deferred};
 use crate::read_buffer::ReadBuffer;
 use crate::read_by::{ReadBy, into_reader, permit_piece, read_piece_here, switch_reader};
@@ -135,7 +135,7 @@ where
     if wants_thread(by, dispatcher) {
         return Ok(Round::SwitchReader(state));
     }
-    if owner.core.waiting() >= GATHERED {
+    if are_to_be_sent(&owner.core) {
         return send_gathered(owner, state);
     }
     let why = hand_out(rt, alloc, &mut owner.core, &mut dispatcher.pool)?;

@@ -2,6 +2,7 @@ use Rattle.std.proofs.Common.{ℕ, List, ◌++◌, refl, sym, ap, subst, ◌∙�
 use Rattle.nm_session.specs.Asking.{outstanding_for, own_reply}
 use Rattle.nm_session.specs.CoreFields.{session_in}
 use Rattle.nm_session.specs.Session.{Session, HasRoom}
+use Rattle.nm_session.proofs.Following.{follows_both}
 use Rattle.nm_session.proofs.Room.{bytes_more, fits_beside}
 use Rattle.nm_session.proofs.Settled.{asked, tells, goes_on, known_after}
 use Rattle.nm_session.proofs.session_core.SessionCore.read_one.Goals as goal
@@ -67,6 +68,8 @@ returns-in-Ok-Some-clause-tells c =
     let index = rw c.in-Ok-Some.field-0-is at c.in-Ok-Some.ensures.index in
     let judged = rw c.export.ensures at c.judge_within-judged.ensures.judged in
     let inside = rw c.export.ensures at c.judge_within-judged.ensures.inside in
+    let reply = own_reply c.in-Ok-Some.request c.judge_within-judged.result in
+    let appended = c.dispatch.ensures.out ∙ ap (λ (xs : List ℕ). xs ++ reply) c.reserve.ensures.items in
     rw (← c.self.view_is)
     (tells (session_in c.self.inside) _ c.in-Ok-Some.request c.judge_within-judged.result _
     (asked (session_in c.self.inside) _ c.in-Ok-Some.request c.judge_within-judged.result
@@ -85,5 +88,5 @@ returns-in-Ok-Some-clause-tells c =
       haggling = refl;
       count = handed.count;
       outstanding = c.dispatch.ensures.outstanding;
-      out = c.dispatch.ensures.out ∙ ap (λ (xs : List ℕ). xs ++ own_reply c.in-Ok-Some.request c.judge_within-judged.result) c.reserve.ensures.items;
+      out = follows_both _ _ c.join.ensures.same c.in_ok-join.ensures.one appended;
     })) c.dispatch.ensures.next)
