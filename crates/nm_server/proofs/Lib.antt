@@ -1,2 +1,3 @@
 mod Evenness
 mod Telling
+mod Waiting

@@ -12,8 +12,10 @@ use Rattle.nm_lanes.specs.Runs.{runs_of_range}
 use Rattle.nm_lanes.specs.Writes.{HasWritten, HasWrittenSome}
 use Rattle.nm_leg.specs.Leg.{LegType}
 use Rattle.nm_mirror.specs.Counting.{Follows}
+use Rattle.nm_mirror.specs.Hearing.{EachBecomes, Waits}
 use Rattle.nm_mirror.specs.LaneState.{LaneState}
 use Rattle.nm_mirror.specs.declared.pass.Pass.{Pass}
+use Rattle.nm_mirror.proofs.HearingLemmas.{wait-here, wait-on}
 use Rattle.nm_reports.specs.declared.mirror_call.MirrorCall.{MirrorCall}
 use Rattle.nm_reports.specs.declared.mirror_call.MirrorCall.TheVariants as mirror
 use Rattle.nm_session.specs.declared.target_fault.TargetFault.TheVariants.{Memory, Io, Full}
@@ -108,13 +110,13 @@ Acts type shape (Flushes answer) = Sync type shape (IsStripeOf shape) answer
 Acts type shape (Syncs offset count answer) =
     Sync type shape (Touches shape (range_at offset count)) answer
 
--- calls one after the other
+-- calls one after the other; before each, and after the last, the parts may see the log go on
 abbrev pub LeadMirror : {L : Type 0} → LegType L → Geometry → List (LaneState L) → List TargetCall
     → List (LaneState L) → Type 0
-LeadMirror type shape old [] new = new ≡ old
+LeadMirror type shape old [] new = EachBecomes (Waits type) old new
 LeadMirror {L} type shape old (call ∷ calls) new =
-    (mid : List (LaneState L)) × Acts type shape call (old, mid)
-    × LeadMirror type shape mid calls new
+    (front : List (LaneState L)) × (mid : List (LaneState L)) × EachBecomes (Waits type) old front
+    × Acts type shape call (front, mid) × LeadMirror type shape mid calls new
 
 -- how a mirror's blocks lie in its stripes, and the parts of a pass through it
 pub record PassState (L : Type 0) : Type 0 where
@@ -133,14 +135,28 @@ pub record Leads {L : Type 0} (type : LegType L) (old : PassState L) (calls : Li
 
 -- no call leads from one to itself
 pub leads-nowhere : {L : Type 0} (type : LegType L) (old : PassState L) → Leads type old [] old
-leads-nowhere type old = record { shape = refl; calls_lead = refl }
+leads-nowhere type old = record { shape = refl; calls_lead = wait-here type old.parts }
+
+-- what waits first
+wait-first : {L : Type 0} (type : LegType L) (shape : Geometry) (old mid new : List (LaneState L))
+    (calls : List TargetCall) → EachBecomes (Waits type) old mid
+    → LeadMirror type shape mid calls new → LeadMirror type shape old calls new
+wait-first type shape old mid new [] before after = wait-on type old mid new before after
+wait-first type shape old mid new (call ∷ calls) before after =
+    (after.0, after.1, wait-on type old mid after.0 before after.2, after.3, after.4)
 
 lead-on : {L : Type 0} (type : LegType L) (shape : Geometry) (old mid new : List (LaneState L))
     (first second : List TargetCall) → LeadMirror type shape old first mid
     → LeadMirror type shape mid second new → LeadMirror type shape old (first ++ second) new
-lead-on type shape old mid new [] second before after = rw (← before) after
-lead-on type shape old mid new (call ∷ first) second before after =
-    (before.0, before.1, lead-on type shape before.0 mid new first second before.2 after)
+lead-on type shape old mid new [] second before after =
+    wait-first type shape old mid new second before after
+lead-on type shape old mid new (call ∷ first) second before after = (
+  before.0,
+  before.1,
+  before.2,
+  before.3,
+  lead-on type shape before.1 mid new first second before.4 after,
+)
 
 -- calls that follow one another are one list
 pub leads-on : {L : Type 0} (type : LegType L) (old mid new : PassState L)

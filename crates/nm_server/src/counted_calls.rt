@@ -6,7 +6,7 @@ use crate::mirror_calls::MirrorCalls;
 use nm_connections::Activity;
 use nm_geometry::Shape;
 use nm_leg::LegPart;
-use nm_mirror::{Naming, Pass};
+use nm_mirror::{LogTold, Naming, Pass, SessionTrail};
 use nm_reports::MirrorCall;
 use nm_session::TargetFault;
 use std::sync::atomic::AtomicBool;
@@ -36,5 +36,17 @@ impl<'a, L: LegPart, J: Naming, C: MirrorCalls<L, J>> MirrorCalls<L, J> for Coun
         let done = self.calls.call_through(pass, call, into, is_gone);
         self.activity.end_call();
         done
+    }
+
+    fn session(&self) -> SessionTrail<'_, L, J> {
+        self.calls.session()
+    }
+
+    fn hear(&self, pass: &mut Pass<L, J>, told: LogTold<L, J>) {
+        self.calls.hear(pass, told)
+    }
+
+    fn tell(&self, pass: &mut Pass<L, J>) -> LogTold<L, J> {
+        self.calls.tell(pass)
     }
 }

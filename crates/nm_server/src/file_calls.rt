@@ -11,7 +11,7 @@ use nm_geometry::Shape;
 use nm_lanes::{Gate, WriteFault};
 use nm_leg::LegPart;
 use nm_leg_files::{FileMirror, Leg, LegSyncs};
-use nm_mirror::{Mirror, Naming, Pass};
+use nm_mirror::{LogTold, Mirror, Naming, Pass, SessionTrail};
 use nm_reports::{Metrics, MirrorCall, MirrorCallKind, bytes_of, microseconds_since};
 use nm_session::TargetFault;
 use std::alloc::Global;
@@ -98,6 +98,18 @@ impl<'a, R: Wait + Copy + Clock, J: Naming> MirrorCalls<Leg, J> for FileCalls<'a
             );
         }
         told(answer, changes && self.metrics.is_full_alone())
+    }
+
+    fn session(&self) -> SessionTrail<'_, Leg, J> {
+        self.mirror.session(self.rt)
+    }
+
+    fn hear(&self, pass: &mut Pass<Leg, J>, told: LogTold<Leg, J>) {
+        self.mirror.hear(pass, told)
+    }
+
+    fn tell(&self, pass: &mut Pass<Leg, J>) -> LogTold<Leg, J> {
+        self.mirror.tell(pass)
     }
 }
 
