@@ -23,6 +23,7 @@ mod ReopenLemmas
 mod ReplaceLemmas
 mod RoundLemmas
 mod SaveLemmas
+mod SaveNotes
 mod StatusLemmas
 mod StepsTold
 mod TakingLemmas

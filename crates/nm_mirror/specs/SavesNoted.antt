@@ -1,5 +1,5 @@
 -- What a pass notes of a save, as it begins, ends or fails in each stripe.
-use Rattle.std.specs.Prelude.{◌≡◌, ℕ, is_some}
+use Rattle.std.specs.Prelude.{◌≡◌, ℕ, [], ◌∷◌, None, IsSome}
 use Rattle.nm_book.specs.Log.{PassView}
 use Rattle.nm_gate.specs.declared.gated_stripe.GatedStripe.{GatedStripe}
 use Rattle.nm_history.specs.declared.transition.Move.TheVariants.{Saves}
@@ -7,13 +7,17 @@ use Rattle.nm_history.specs.declared.transition.Transition.{Transition}
 use Rattle.nm_history.specs.History.{LegalMoves}
 use Rattle.nm_leg.specs.Leg.{LegType}
 use Rattle.nm_mirror.specs.Counted.{CountsEach}
-use Rattle.nm_mirror.specs.Trail.{NotesAll, noted_if}
+use Rattle.nm_mirror.specs.Status.{OnlySees, SeesStripe}
+use Rattle.nm_mirror.specs.Trail.{NotesAll}
 
--- the pass notes just this one, where there is a superblock
-abbrev pub NotesSave : {L : Type 0} → LegType L → GatedStripe L
-    → (old new : PassView (Transition L)) → Type 0
-NotesSave type to old new = NotesAll (LegalMoves type) to.stripe.place.stripe
-    (noted_if (is_some to.durable) (record { made = Saves; to = to })) old new
+-- The pass notes just this one. Where there is no superblock nothing is to be noted: the pass looks
+-- at the log, which leads to this stripe.
+pub record NotesSave {L : Type 0} (type : LegType L) (to : GatedStripe L)
+    (old new : PassView (Transition L)) : Type 0 where
+  pub saved : IsSome to.durable → NotesAll (LegalMoves type) to.stripe.place.stripe
+      (record { made = Saves; to = to } ∷ []) old new
+  pub unsaved : to.durable ≡ None
+      → SeesStripe type to.stripe.place.stripe old new to × OnlySees old new
 
 -- in a hold of the stripe of this number its gate changed so, and the pass notes it
 pub record SavesIn {L : Type 0} (type : LegType L) (so : (old new : GatedStripe L) → Type 0)
