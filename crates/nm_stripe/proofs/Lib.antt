@@ -8,8 +8,11 @@ pub mod FlushLemmas
 pub mod LookLemmas
 pub mod LostLemmas
 pub mod OpeningLemmas
+pub mod PushEndLemmas
 pub mod PushLemmas
+pub mod ReadEndLemmas
 pub mod ReadLemmas
 pub mod RunLemmas
 pub mod StepLemmas
+pub mod SyncEndLemmas
 pub mod SyncLemmas

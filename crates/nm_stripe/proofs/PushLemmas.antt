@@ -3,21 +3,17 @@ use Rattle.std.proofs.Common.{◌≡◌, ℕ, ◌+◌, ◌<◌, ◌==◌, Bool, 
 use Rattle.nm_fanout.specs.declared.write_record.Record.{Record}
 use Rattle.nm_fanout.specs.Record.{is_under_way, with_entry, without_leg}
 use Rattle.nm_fanout.specs.Records.{changed, find_record, landed, reached}
-use Rattle.nm_leg.specs.Leg.{Leg, LegType}
+use Rattle.nm_leg.specs.Leg.{LegType}
 use Rattle.nm_rules.specs.declared.refusal.Refusal.TheVariants.{NoTicket}
-use Rattle.nm_rules.specs.Acts.{IsExplainedStep}
 use Rattle.nm_rules.specs.Invariant.{Keeps}
 use Rattle.nm_rules.specs.Lost.{lost}
-use Rattle.nm_rules.specs.RunPush.{CallsToPushRun, HaltsInPushRun, LosesInPushRun, PushesRun, after_push_run, land_each, push_run_rows, reach_each, run_landed, run_lands, run_reached}
+use Rattle.nm_rules.specs.RunPush.{CallsToPushRun, HaltsInPushRun, LosesInPushRun, PushesRun, after_push_run, land_each, push_run_cause, push_run_rows, reach_each, run_landed, run_lands, run_reached}
 use Rattle.nm_rules.specs.Runs.{AreOwed, find_run, of_run}
 use Rattle.nm_rules.specs.State.{StripeState, is_last, next_number}
 use Rattle.nm_rules.proofs.CauseLemmas.{is_there, none_holds, when_off}
 use Rattle.nm_rules.proofs.ClaimLemmas.{finished_landed}
 use Rattle.nm_rules.proofs.LegLemmas.{calls-length}
 use Rattle.nm_rules.proofs.RunPushLemmas.{may_push_run, pushes_run-keeps}
-use Rattle.nm_stripe.specs.declared.push.Reach.{Reach}
-use Rattle.nm_stripe.specs.declared.push.Reach.TheVariants.{Pushed, Complete, LegLost, Halted}
-use Rattle.nm_stripe.specs.Push.{Reaches, IsReached, IsExplainedReach}
 use Rattle.nm_stripe.proofs.LostLemmas.{lost-after, lost-legs_after}
 
 -- a leg that was there is there after its call
@@ -81,29 +77,26 @@ pushes {L} type old new legs ticket leg c after =
       after = after ∙ ap (λ (ls : List L). after_push_run old ls rs leg) (sym same);
     }
 
-module _ {L : Type 0} (type : LegType L) (old new : StripeState L) (ticket leg : ℕ) (k : Keeps type old) (p : PushesRun type old new ticket leg) where
-  -- the run is still there
-  pub went-run : IsSome (find_run ticket new.records)
-  went-run =
-      let rows = none_holds (push_run_rows old ticket leg) p.called.no_cause in
-      let at = is_there (find_run ticket old.records) (when_off (is_none (find_run ticket old.records)) NoTicket rows.1.0) in
-      ap (λ (s : StripeState L). is_some (find_run ticket s.records)) p.after
-      ∙ some-pushed (λ (r : Record). r.run == ticket) (λ l r. refl) (λ n r. refl) old new.legs (of_run ticket old.records) leg
-      ∙ ap (λ (o : Option Record). is_some o) at.1
+-- the run is still there once it has reached the leg, and so is the record of its first block
+pub after-run : {L : Type 0} (old : StripeState L) (legs : List L) (ticket leg : ℕ) → push_run_cause old ticket leg ≡ None → IsSome (find_run ticket (after_push_run old legs (of_run ticket old.records) leg).records)
+after-run old legs ticket leg none =
+    let rows = none_holds (push_run_rows old ticket leg) none in
+    let at = is_there (find_run ticket old.records) (when_off (is_none (find_run ticket old.records)) NoTicket rows.1.0) in
+    some-pushed (λ (r : Record). r.run == ticket) (λ l r. refl) (λ n r. refl) old legs (of_run ticket old.records) leg ∙ ap (λ (o : Option Record). is_some o) at.1
 
-  -- and so is the record of its first block
-  pub went-record : IsSome (find_record ticket new.records)
-  went-record =
-      let may = may_push_run old ticket leg p.called.no_cause in
-      let are : AreOwed ticket p.called.block leg (may.first ∷ may.more) old.records = subst (λ (rs : List Record). AreOwed ticket p.called.block leg rs old.records) may.all p.called.are in
-      let was : find_record ticket old.records ≡ Some may.first = subst (λ (t : ℕ). find_record t old.records ≡ Some may.first) are.0 are.2 in
-      ap (λ (s : StripeState L). is_some (find_record ticket s.records)) p.after
-      ∙ some-pushed (λ (r : Record). r.ticket == ticket) (λ l r. refl) (λ n r. refl) old new.legs (of_run ticket old.records) leg
-      ∙ ap (λ (o : Option Record). is_some o) was
+pub after-record : {L : Type 0} (old : StripeState L) (legs : List L) (ticket leg : ℕ) → IsSome (find_record ticket old.records) → IsSome (find_record ticket (after_push_run old legs (of_run ticket old.records) leg).records)
+after-record old legs ticket leg was = some-pushed (λ (r : Record). r.ticket == ticket) (λ l r. refl) (λ n r. refl) old legs (of_run ticket old.records) leg ∙ was
 
-  -- it has its entry once it is finished
-  pub went-landed : (r : Record) → find_record ticket new.records ≡ Some r → is_under_way r ≡ false → IsSome r.entry
-  went-landed r found over = ap (λ (e : Option ℕ). is_some e) (finished_landed type new ticket r found over (pushes_run-keeps type old new ticket leg k p).records).1
+-- a run that a leg is called for has the record of its first block
+pub called-record : {L : Type 0} (type : LegType L) (succeeded : Bool) (old : StripeState L) (legs : List L) (ticket leg : ℕ) → CallsToPushRun type succeeded old legs ticket leg → IsSome (find_record ticket old.records)
+called-record type succeeded old legs ticket leg c =
+    let may = may_push_run old ticket leg c.no_cause in
+    let are : AreOwed ticket c.block leg (may.first ∷ may.more) old.records = subst (λ (rs : List Record). AreOwed ticket c.block leg rs old.records) may.all c.are in
+    ap (λ (o : Option Record). is_some o) (subst (λ (t : ℕ). find_record t old.records ≡ Some may.first) are.0 are.2)
+
+-- once a push has finished the run it has its entry
+pub went-landed : {L : Type 0} (type : LegType L) (old new : StripeState L) (ticket leg : ℕ) → Keeps type old → PushesRun type old new ticket leg → (r : Record) → find_record ticket new.records ≡ Some r → is_under_way r ≡ false → IsSome r.entry
+went-landed type old new ticket leg k p r found over = ap (λ (e : Option ℕ). is_some e) (finished_landed type new ticket r found over (pushes_run-keeps type old new ticket leg k p).records).1
 
 -- a push whose leg failed, and has gone out
 pub loses : {L : Type 0} (type : LegType L) (old new : StripeState L) (legs : List L) (ticket leg : ℕ) → CallsToPushRun type false old legs ticket leg → is_last leg old ≡ false → new ≡ lost leg (record old { legs = legs }) → LosesInPushRun type old new ticket leg
@@ -127,16 +120,3 @@ halts {L} type old new legs ticket leg c last after =
 pub some-there : {A : Type 0} (o : Option A) → IsSome o → (x : A) × (o ≡ Some x)
 some-there None is = cc
 some-there (Some x) is = (x, refl)
-
--- a push that reached its leg, with its answer
-pub reaches : {L : Type 0} (type : LegType L) (old new : StripeState L) (ticket leg : ℕ) (answer : Reach) → PushesRun type old new ticket leg → IsReached new ticket answer → Reaches type old new ticket leg answer
-reaches type old new ticket leg (Pushed count) p is = (p, is)
-reaches type old new ticket leg (Complete number) p is = (p, is)
-reaches type old new ticket leg (LegLost gone) p is = absurd is
-reaches type old new ticket leg Halted p is = absurd is
-
-pub explained-reach : {L : Type 0} (model : L → Leg) (old new : StripeState L) (answer : Reach) → IsExplainedStep model [] old new → IsExplainedReach model old new answer
-explained-reach model old new (Pushed count) one = one
-explained-reach model old new (Complete number) one = one
-explained-reach model old new (LegLost gone) one = one
-explained-reach model old new Halted one = tt

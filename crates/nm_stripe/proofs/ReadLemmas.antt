@@ -11,13 +11,14 @@ use Rattle.nm_rules.specs.Read.{read_leg, turn_after}
 use Rattle.nm_rules.specs.RunCalls.{ReadsRunAt}
 use Rattle.nm_rules.specs.RunRead.{CallsToReadRun, FailsInReadRun, FindsRun, LosesInReadRun, after_read_run, last_block, read_run_cause}
 use Rattle.nm_rules.specs.Runs.{EntryNames, FitsRun}
-use Rattle.nm_rules.specs.State.{StripeState, is_last, next_number}
+use Rattle.nm_rules.specs.State.{StripeState, is_last}
 use Rattle.nm_rules.proofs.HaltLemmas.{read_fault-keeps}
 use Rattle.nm_rules.proofs.LegLemmas.{calls-length}
 use Rattle.nm_rules.proofs.LostStepLemmas.{read_lost-keeps, read_lost-acts}
 use Rattle.nm_rules.proofs.ReadLemmas.{fails_in_read-explained}
 use Rattle.nm_rules.proofs.RunCallLemmas.{length-blocks}
 use Rattle.nm_rules.proofs.RunReadLemmas.{fails_in_read_run-last, loses_in_read_run-last}
+use Rattle.nm_stripe.specs.Ends.{names_of}
 use Rattle.nm_stripe.proofs.LostLemmas.{lost-after, lost-legs_after}
 
 -- each leg has each run of the stripe
@@ -47,27 +48,21 @@ module _ {L : Type 0} (type : LegType L) (old mid : StripeState L) (block leg : 
     reads = reads;
   }
 
+  abbrev found : List Block
+  found = blocks_of is
+
   -- a read that found the bytes
-  pub finds : (new : StripeState L) (names : EntryNames) (stripe number : ℕ) → ReadsRunAt type true leg block (blocks_of is) old.legs mid.legs
-      → new ≡ after_read_run mid mid.legs block (blocks_of is) (turn_after (last_block block (blocks_in is)) mid)
-      → names ≡ record { stripe = stripe; block = block; number = number; count = blocks_in was } → stripe ≡ new.place.stripe → number ≡ next_number mid → FindsRun type old new block (blocks_of is) names
-  finds new names stripe number reads after named here next =
-      let found = blocks_of is in
-      let turn : ℕ → ℕ = λ n. turn_after (last_block block n) old in
-      let from : new ≡ after_read_run old mid.legs block found (turn (length found)) =
-      after ∙ ap (λ (m : StripeState L). after_read_run m mid.legs block found (turn_after (last_block block (blocks_in is)) m)) others
-      ∙ ap (λ (n : ℕ). after_read_run old mid.legs block found (turn n)) (sym (length-blocks is)) in
+  pub finds : (new : StripeState L) (names : EntryNames) → ReadsRunAt type true leg block found old.legs mid.legs → names ≡ names_of mid block (length found)
+      → new ≡ after_read_run mid mid.legs block found (turn_after (last_block block (length found)) mid) → FindsRun type old new block found names
+  finds new names reads named after =
+      let turn : StripeState L → ℕ = λ s. turn_after (last_block block (length found)) s in
+      let from : new ≡ after_read_run old mid.legs block found (turn old) = after ∙ ap (λ (m : StripeState L). after_read_run m mid.legs block found (turn m)) others in
       let same : new.legs ≡ mid.legs = ap (λ (s : StripeState L). s.legs) from in
-      let place : stripe ≡ old.place.stripe = here ∙ ap (λ (s : StripeState L). s.place.stripe) from in
-      let numbered : number ≡ next_number old = next ∙ ap (λ (s : StripeState L). next_number s) others in
       record {
         leg = leg;
         called = subst (λ (ls : List L). CallsToReadRun type true old ls block leg found) (sym same) (called true reads);
-        named = named
-            ∙ ap (λ (n : ℕ). let e : EntryNames = record { stripe = n; block = block; number = number; count = blocks_in was } in e) place
-            ∙ ap (λ (n : ℕ). let e : EntryNames = record { stripe = old.place.stripe; block = block; number = n; count = blocks_in was } in e) numbered
-            ∙ ap (λ (n : ℕ). let e : EntryNames = record { stripe = old.place.stripe; block = block; number = next_number old; count = n } in e) as-many;
-        after = from ∙ ap (λ (ls : List L). after_read_run old ls block found (turn (length found))) (sym same);
+        named = named ∙ ap (λ (m : StripeState L). names_of m block (length found)) others;
+        after = from ∙ ap (λ (ls : List L). after_read_run old ls block found (turn old)) (sym same);
       }
 
   -- a read whose leg failed, and has gone out

@@ -3,6 +3,7 @@ pub mod Begin
 pub mod Bound
 pub mod Copy
 pub mod End
+pub mod Ends
 pub mod Fail
 pub mod Flush
 pub mod Laws

@@ -1,13 +1,35 @@
 //! Flushes a leg: a sync whose failure costs no more than a failed write.
 ghost use Rattle.nm_leg.specs.Leg.{leg_type};
-ghost use Rattle.std.specs.Prelude.{◌≡◌, ◌<◌, [], length, IsTrue, IfOk, IfErr};
+ghost use Rattle.std.specs.Prelude.{◌≡◌, ◌+◌, ◌^◌, ◌<◌, ◌≤◌, [], length, max, IsTrue, IfOk, IfErr};
+ghost use Rattle.nm_fanout.specs.Records.{unlanded};
 ghost use Rattle.nm_rules.specs.Acts.{IsExplainedStep};
+ghost use Rattle.nm_rules.specs.Lost.{lost};
+ghost use Rattle.nm_rules.specs.State.{next_number};
+ghost use Rattle.nm_stripe.specs.Ends.{EndsSync};
 ghost use Rattle.nm_stripe.specs.Sync.{FlushesLeg, RefusesSync};
 
 use crate::stripe::Stripe;
 use crate::sync::Syncing;
 use nm_leg::LegPart;
 use nm_rules::Refusal;
+use nm_store::Store;
+
+/// Takes the answer of a flush's leg call.
+fn answer_flush<L: LegPart>(store: &mut Store<L>, leg: u8, done: bool) -> Result<Syncing, Refusal>
+    requires leg { leg < length store.old.legs }
+    requires numbers { next_number store.old + unlanded store.old.records
+        ≤ max (2 ^ 63) store.old.first }
+    ensures ends { EndsSync done leg store.old (lost leg store.old) store.new result }
+{
+    if done {
+        return Ok(Syncing::Synced);
+    }
+    if store.is_last(leg) {
+        return Err(Refusal::Fault);
+    }
+    store.lose(leg);
+    Ok(Syncing::LegLost(leg))
+}
 
 impl<L: LegPart> Stripe<L> {
     /// Syncs a leg that is not out. Where its sync fails, no more of it is behind than after a
@@ -24,13 +46,7 @@ impl<L: LegPart> Stripe<L> {
         if let Some(refusal) = self.store.sync_cause(leg) {
             return Err(refusal);
         }
-        if self.store.sync_leg(leg).is_ok() {
-            return Ok(Syncing::Synced);
-        }
-        if self.store.is_last(leg) {
-            return Err(Refusal::Fault);
-        }
-        self.store.lose(leg);
-        Ok(Syncing::LegLost(leg))
+        let done = self.store.sync_leg(leg).is_ok();
+        answer_flush(&mut self.store, leg, done)
     }
 }

@@ -1,12 +1,14 @@
 //! Pushes a write to a leg.
 ghost use Rattle.nm_leg.specs.Leg.{leg_type};
-ghost use Rattle.std.specs.Prelude.{◌≡◌, ◌<◌, false, length, IsTrue, IsSome, IfOk, IfErr, OnErr};
-ghost use Rattle.std.specs.Prelude.{Some};
+ghost use Rattle.std.specs.Prelude.{◌≡◌, ◌+◌, ◌^◌, ◌<◌, ◌≤◌, false, length, max, IsTrue, IsSome};
+ghost use Rattle.std.specs.Prelude.{IfOk, IfErr, OnErr, None, Some, true};
 ghost use Rattle.nm_fanout.specs.declared.write_record.Record.{Record};
 ghost use Rattle.nm_fanout.specs.Record.{is_under_way};
-ghost use Rattle.nm_fanout.specs.Records.{find_record};
+ghost use Rattle.nm_fanout.specs.Records.{find_record, unlanded};
 ghost use Rattle.nm_rules.specs.RunPush.{push_run_cause};
 ghost use Rattle.nm_rules.specs.Runs.{find_run};
+ghost use Rattle.nm_rules.specs.State.{next_number};
+ghost use Rattle.nm_stripe.specs.Ends.{EndsPush, after_reaching};
 ghost use Rattle.nm_stripe.specs.Push.{Reaches, IsReached, IsExplainedReach};
 
 use crate::stripe::Stripe;
@@ -44,6 +46,37 @@ fn reach_of<L: LegPart>(store: &Store<L>, ticket: u64, near: usize) -> Reach
     }
 }
 
+/// Takes the answer of a write's leg call.
+#[inline(always)]
+fn answer_write<L: LegPart>(
+    store: &mut Store<L>,
+    ticket: u64,
+    near: usize,
+    leg: u8,
+    done: bool,
+) -> Reach
+    requires leg { leg < length store.old.legs }
+    requires no_cause { push_run_cause store.old ticket leg ≡ None }
+    requires record { IsSome (find_record ticket store.old.records) }
+    requires landed { done ≡ true → (r : Record)
+        → find_record ticket (after_reaching ticket leg store.old).records ≡ Some r
+        → is_under_way r ≡ false → IsSome r.entry }
+    requires numbers { next_number store.old + unlanded store.old.records
+        ≤ max (2 ^ 63) store.old.first }
+    ensures ends { EndsPush done ticket leg store.old store.new result }
+{
+    if done {
+        store.reach(ticket, near, leg);
+        return reach_of(store, ticket, near);
+    }
+    if store.is_last(leg) {
+        store.stop();
+        return Reach::Halted;
+    }
+    store.lose(leg);
+    Reach::LegLost(leg)
+}
+
 impl<L: LegPart> Stripe<L> {
     /// Writes the data of the run that this ticket names to a leg that still needs them, in one
     /// call. At the master its writes take effect, under the next numbers.
@@ -62,15 +95,7 @@ impl<L: LegPart> Stripe<L> {
         ensures stays { OnErr result (self.new ≡ self.old) }
     {
         let near = self.store.find_to_push(ticket, leg)?;
-        if self.store.write_leg(ticket, near, leg).is_ok() {
-            self.store.reach(ticket, near, leg);
-            return Ok(reach_of(&self.store, ticket, near));
-        }
-        if self.store.is_last(leg) {
-            self.store.stop();
-            return Ok(Reach::Halted);
-        }
-        self.store.lose(leg);
-        Ok(Reach::LegLost(leg))
+        let done = self.store.write_leg(ticket, near, leg).is_ok();
+        Ok(answer_write(&mut self.store, ticket, near, leg, done))
     }
 }

@@ -1,13 +1,19 @@
 //! Syncs a leg, and calls a joining leg in sync.
 ghost use Rattle.nm_leg.specs.Leg.{leg_type};
-ghost use Rattle.std.specs.Prelude.{◌≡◌, ◌<◌, [], length, IsTrue, IfOk, IfErr, OnErr, Some};
+ghost use Rattle.std.specs.Prelude.{◌≡◌, ◌+◌, ◌^◌, ◌<◌, ◌≤◌, [], length, max, IsTrue, IfOk, IfErr};
+ghost use Rattle.std.specs.Prelude.{OnErr, Some};
+ghost use Rattle.nm_fanout.specs.Records.{unlanded};
 ghost use Rattle.nm_rules.specs.Acts.{IsExplainedStep};
+ghost use Rattle.nm_rules.specs.Lost.{lost_all};
 ghost use Rattle.nm_rules.specs.Promote.{promote_cause};
+ghost use Rattle.nm_rules.specs.State.{next_number};
+ghost use Rattle.nm_stripe.specs.Ends.{EndsPromote, EndsSync};
 ghost use Rattle.nm_stripe.specs.Sync.{EndsJoining, RefusesSync, Syncs};
 
 use crate::stripe::Stripe;
 use nm_leg::LegPart;
 use nm_rules::Refusal;
+use nm_store::Store;
 
 /// What a promotion answers.
 #[derive(Clone, Copy, PartialEq, Eq)]
@@ -27,6 +33,38 @@ pub enum Syncing {
     LegLost(u8),
 }
 
+/// Takes the answer of a sync's leg call.
+fn answer_sync<L: LegPart>(store: &mut Store<L>, leg: u8, done: bool) -> Result<Syncing, Refusal>
+    requires leg { leg < length store.old.legs }
+    requires numbers { next_number store.old + unlanded store.old.records
+        ≤ max (2 ^ 63) store.old.first }
+    ensures ends { EndsSync done leg store.old (lost_all leg store.old) store.new result }
+{
+    if done {
+        return Ok(Syncing::Synced);
+    }
+    if store.is_last(leg) {
+        return Err(Refusal::Fault);
+    }
+    store.lose_all(leg);
+    Ok(Syncing::LegLost(leg))
+}
+
+/// Takes the answer of the leg call of a promotion: a sync of a joining leg that lacks nothing.
+fn answer_promote<L: LegPart>(store: &mut Store<L>, leg: u8, done: bool) -> Promotion
+    requires leg { leg < length store.old.legs }
+    requires numbers { next_number store.old + unlanded store.old.records
+        ≤ max (2 ^ 63) store.old.first }
+    ensures ends { EndsPromote done leg store.old store.new result }
+{
+    if done {
+        store.promote(leg);
+        return Promotion::InSync;
+    }
+    store.lose_all(leg);
+    Promotion::LegLost(leg)
+}
+
 impl<L: LegPart> Stripe<L> {
     /// Syncs a joining leg that is behind nowhere, and calls it in sync.
     ///
@@ -41,13 +79,8 @@ impl<L: LegPart> Stripe<L> {
         if let Some(refusal) = self.store.promote_cause(leg) {
             return Err(refusal);
         }
-        if self.store.sync_leg(leg).is_ok() {
-            self.store.promote(leg);
-            Ok(Promotion::InSync)
-        } else {
-            self.store.lose_all(leg);
-            Ok(Promotion::LegLost(leg))
-        }
+        let done = self.store.sync_leg(leg).is_ok();
+        Ok(answer_promote(&mut self.store, leg, done))
     }
 
     /// Syncs a leg that is not out.
@@ -64,13 +97,7 @@ impl<L: LegPart> Stripe<L> {
         if let Some(refusal) = self.store.sync_cause(leg) {
             return Err(refusal);
         }
-        if self.store.sync_leg(leg).is_ok() {
-            return Ok(Syncing::Synced);
-        }
-        if self.store.is_last(leg) {
-            return Err(Refusal::Fault);
-        }
-        self.store.lose_all(leg);
-        Ok(Syncing::LegLost(leg))
+        let done = self.store.sync_leg(leg).is_ok();
+        answer_sync(&mut self.store, leg, done)
     }
 }
