@@ -1,0 +1,11 @@
+pub mod ApartLemmas
+pub mod AskLemmas
+pub mod FindingLemmas
+pub mod LostOutLemmas
+pub mod NotedLemmas
+pub mod PushOverLemmas
+pub mod ReadEndLemmas
+pub mod ReadOutLemmas
+pub mod TakenLemmas
+pub mod VoidLemmas
+pub mod WriteOutLemmas

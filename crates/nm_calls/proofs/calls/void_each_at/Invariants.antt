@@ -1,0 +1,8 @@
+-- The first ones are changed, and the others are as they were.
+use Rattle.std.proofs.Common.{◌≡◌, ◌++◌, map, take, drop}
+use Rattle.nm_calls.specs.CallsOut.{voided_at}
+use Rattle.nm_calls.proofs.calls.void_each_at.Given as goal
+
+abbrev pub invariant-loop-read : goal.invariant-loop-read
+invariant-loop-read l =
+    l.reads ≡ map (voided_at l.block l.count) (take l.read-index l.fn.reads) ++ drop l.read-index l.fn.reads

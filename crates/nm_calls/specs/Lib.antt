@@ -1,0 +1,5 @@
+pub mod Answers
+pub mod AsAnswered
+pub mod Asking
+pub mod CallsOut
+pub mod HasCalls

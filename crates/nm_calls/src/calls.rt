@@ -1,0 +1,133 @@
+ghost use Rattle.std.specs.Prelude.{◌≡◌, ◌≢◌, ◌⊎◌, ◌↔◌, ◌+◌, ◌<◌, ◌≤◌, ◌^◌, length, map, position};
+ghost use Rattle.std.specs.Prelude.{All, IfNone, IfOk, IfSome, IsTrue};
+ghost use Rattle.nm_calls.specs.Answers.{calls_without, read_answered, voided_without};
+ghost use Rattle.nm_calls.specs.Asking.{next_read};
+ghost use Rattle.nm_calls.specs.CallsOut.{find_read, has_ticket, no_calls, voided_at};
+ghost use Rattle.nm_calls.specs.HasCalls.{with_read};
+
+use crate::read_out::ReadOut;
+use nm_replay::Memory;
+use std::alloc::Global;
+use std::marker::Model;
+
+/// How many reads may be out.
+pub const MOST_READS: usize = 256;
+
+/// The calls of a stripe that are out: as yet reads alone, at most 256.
+///
+/// All memory is taken by `new`.
+#[derive(Drop)]
+pub struct Calls {
+    tickets: u64,
+    reads: Vec<ReadOut>,
+}
+
+impl Model for Calls {
+    ghost use Rattle.std.specs.Prelude.{◌≤◌, length, vec_capacity};
+    ghost use Rattle.nm_calls.specs.CallsOut.{CallsOut, only_reads};
+
+    ghost Value = { CallsOut };
+
+    ghost view = { λ c. only_reads c.tickets c.reads.items };
+
+    ghost invariant = { λ c. (length c.reads.items ≤ 256) × (256 ≤ vec_capacity c.reads) };
+}
+
+/// Each of these reads that has one of so many blocks, from this one on, is void.
+fn void_each_at(reads: &mut [ReadOut], block: u64, count: u64)
+    ensures { reads.new ≡ map (voided_at block count) reads.old }
+{
+    for read in reads.iter_mut() {
+        *read = read.voided_at(block, count);
+    }
+}
+
+/// This leg has gone out, where this one was the master.
+fn void_each_without(reads: &mut [ReadOut], leg: u8, master: u8)
+    ensures { reads.new ≡ map (voided_without leg master) reads.old }
+{
+    for read in reads.iter_mut() {
+        *read = read.voided_without(leg, master);
+    }
+}
+
+/// The place of the read of this ticket.
+fn find(reads: &[ReadOut], ticket: u64) -> Option<usize>
+    ensures first { result ≡ position (has_ticket ticket) reads.now }
+    ensures within { IfSome result (λ place. place < length reads.now) }
+    ensures none { IfNone result (All (λ read. read.ticket ≢ ticket) reads.now) }
+{
+    reads.iter().position(|read| read.ticket == ticket)
+}
+
+impl Calls {
+    /// No call is out.
+    pub fn new(alloc: Global) -> Result<Calls, Memory>
+        ensures { IfOk result (λ calls. calls ≡ no_calls) }
+    {
+        Ok(Calls {
+            tickets: 0,
+            reads: Vec::with_capacity(alloc, MOST_READS)?,
+        })
+    }
+
+    /// Whether no more read may be handed out.
+    pub fn is_full(&self) -> bool
+        ensures full { IsTrue result
+            ↔ ((256 ≤ length self.now.reads) ⊎ (2 ^ 64 ≤ self.now.tickets + 1)) }
+    {
+        self.reads.len() >= MOST_READS || self.tickets == u64::MAX
+    }
+
+    /// A read of so many blocks of this leg, from this one on, is handed out. Gives its ticket.
+    pub fn hand_out_read(&mut self, leg: u8, block: u64, count: u16) -> u64
+        requires few { length self.old.reads < 256 }
+        requires tickets { self.old.tickets + 1 < 2 ^ 64 }
+        ensures ticket { result ≡ self.old.tickets }
+        ensures out { self.new ≡ with_read (next_read leg block count self.old) self.old }
+    {
+        let ticket = self.tickets;
+        self.tickets = ticket + 1;
+        self.reads.push_reserved(ReadOut {
+            ticket,
+            leg,
+            block,
+            count,
+            void: false,
+        });
+        ticket
+    }
+
+    /// The read of this ticket, if it is out.
+    pub fn find_read(&self, ticket: u64) -> Option<ReadOut>
+        ensures { result ≡ find_read ticket self.now.reads }
+    {
+        match find(&self.reads, ticket) {
+            Some(place) => Some(self.reads[place]),
+            None => None,
+        }
+    }
+
+    /// The read is answered.
+    pub fn take_read(&mut self, read: ReadOut)
+        ensures { self.new ≡ read_answered read self.old }
+    {
+        self.reads.retain(|other| other.ticket != read.ticket);
+    }
+
+    /// Entries land on so many blocks, from this one on: each read there is void.
+    pub fn void_at(&mut self, block: u64, count: u64)
+        ensures { self.new ≡ record self.old {
+          reads = map (voided_at block count) self.old.reads;
+        } }
+    {
+        void_each_at(&mut self.reads, block, count);
+    }
+
+    /// A leg goes out: each read of it is void, and where it was the master each read.
+    pub fn lose(&mut self, leg: u8, master: u8)
+        ensures { self.new ≡ calls_without leg master self.old }
+    {
+        void_each_without(&mut self.reads, leg, master);
+    }
+}
