@@ -4,5 +4,6 @@ pub mod Laws
 pub mod LossyActs
 pub mod Lost
 pub mod Moves
+pub mod Notes
 pub mod Restarts
 pub mod Telling

@@ -1,4 +1,5 @@
 //! A move of a stripe behind its gate.
+use bytes::Bytes;
 use nm_book::Legality;
 use nm_gate::GatedStripe;
 use nm_leg::LegPart;
@@ -27,14 +28,22 @@ pub struct Transition<L: LegPart> {
     pub to: GatedStripe<L>,
 }
 
-/// Which lists of transitions are legal, of the stripe of each number on legs of this type.
+/// What is noted in the log of a mirror: a transition of a stripe, or that a session's request
+/// came, with its index among those of the session, and its payload. No value of it is made.
+pub enum Noted<L: LegPart> {
+    Moved(Transition<L>),
+    Asked(u64, Bytes),
+}
+
+/// Which lists of entries are legal in the shard of each number, of a stripe on legs of this type
+/// or of a session.
 pub struct Legal<L> {
     of: PhantomData<L>,
 }
 
-impl<L: LegPart> Legality<Transition<L>> for Legal<L> {
+impl<L: LegPart> Legality<Noted<L>> for Legal<L> {
     ghost use Rattle.nm_leg.specs.Leg.{leg_type};
-    ghost use Rattle.nm_history.specs.History.{LegalMoves};
+    ghost use Rattle.nm_history.specs.Notes.{LegalNotes};
 
-    ghost legal = { LegalMoves (leg_type L.model L.honest) };
+    ghost legal = { LegalNotes (leg_type L.model L.honest) };
 }

@@ -6,7 +6,7 @@ use Rattle.nm_book.specs.Log.{PassView}
 use Rattle.nm_choice.specs.Choice.{is_in_sync}
 use Rattle.nm_choice.specs.declared.leg_state.LegState.{LegState}
 use Rattle.nm_choice.specs.declared.leg_state.LegState.TheVariants.{InSync, Joining, Out}
-use Rattle.nm_history.specs.declared.transition.Transition.{Transition}
+use Rattle.nm_history.specs.declared.transition.Noted.{Noted}
 use Rattle.nm_leg.specs.Leg.{LegType}
 use Rattle.nm_rules.specs.Cause.{first_cause, when}
 use Rattle.nm_rules.specs.State.{StripeState, is_last, is_out, leg_state}
@@ -82,8 +82,8 @@ stop-counted false false false true old = refl
 stop-counted false false false false old = refl
 
 -- where the leg was counted as the last somewhere, some stripe has it as the only one in sync
-pub last-of : {L : Type 0} (type : LegType L) (leg stripes : ℕ) (first : PassView (Transition L)) (last : FailCounts × PassView (Transition L)) → FailsEach type leg stripes first last → 0 < last.0.last → (number : ℕ) × (number < stripes) × IsLastIn L leg number
-last-of {L} type leg stripes first last each = elim each as (λ (n : ℕ) (c : FailCounts × PassView (Transition L)) _. 0 < c.0.last → (number : ℕ) × (number < n) × IsLastIn L leg number) [
+pub last-of : {L : Type 0} (type : LegType L) (leg stripes : ℕ) (first : PassView (Noted L)) (last : FailCounts × PassView (Noted L)) → FailsEach type leg stripes first last → 0 < last.0.last → (number : ℕ) × (number < stripes) × IsLastIn L leg number
+last-of {L} type leg stripes first last each = elim each as (λ (n : ℕ) (c : FailCounts × PassView (Noted L)) _. 0 < c.0.last → (number : ℕ) × (number < n) × IsLastIn L leg number) [
   | Start ↦ λ some. absurd (omega (arith, some))
   | OneMore number old new (before → known) step ↦ λ some.
       let stripe = step.held.0.stripe in
@@ -105,8 +105,8 @@ last-of {L} type leg stripes first last each = elim each as (λ (n : ℕ) (c : F
 ]
 
 -- the stripes that were counted as stopped had stopped
-pub stopped-of : {L : Type 0} (type : LegType L) (leg stripes : ℕ) (first : PassView (Transition L)) (last : FailCounts × PassView (Transition L)) → FailsEach type leg stripes first last → HaveStopped L stripes last.0.stopped
-stopped-of {L} type leg stripes first last each = elim each as (λ (n : ℕ) (c : FailCounts × PassView (Transition L)) _. HaveStopped L n c.0.stopped) [
+pub stopped-of : {L : Type 0} (type : LegType L) (leg stripes : ℕ) (first : PassView (Noted L)) (last : FailCounts × PassView (Noted L)) → FailsEach type leg stripes first last → HaveStopped L stripes last.0.stopped
+stopped-of {L} type leg stripes first last each = elim each as (λ (n : ℕ) (c : FailCounts × PassView (Noted L)) _. HaveStopped L n c.0.stopped) [
   | Start ↦ Start
   | OneMore number old new (before → known) step ↦
       let stripe = step.held.0.stripe in

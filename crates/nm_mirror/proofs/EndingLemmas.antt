@@ -1,13 +1,14 @@
 -- Lists that are gone through from their ends, and what was taken of them so far.
 use Rattle.std.proofs.Common.{◌≡◌, ℕ, ◌<◌, List, [], ◌∷◌, ◌++◌, ◌+◌, length, take, map, get_or, append_assoc, refl, sym, ap, subst, ◌∙◌}
 use Rattle.std.proofs.lemmas.List.{take_more}
-use Rattle.nm_book.specs.Log.{KeeperView, PassView, whats}
+use Rattle.nm_book.specs.Log.{KeeperView, PassView}
 use Rattle.nm_book.specs.declared.rule.Past.{Past}
 use Rattle.nm_book.specs.declared.rule.Shard.{Shard}
 use Rattle.nm_gate.specs.declared.gated_stripe.GatedStripe.{GatedStripe}
-use Rattle.nm_history.specs.declared.transition.Transition.{Transition}
-use Rattle.nm_history.specs.History.{LeadsTo, LegalMoves}
+use Rattle.nm_history.specs.declared.transition.Noted.{Noted}
+use Rattle.nm_history.specs.History.{LeadsTo}
 use Rattle.nm_history.proofs.Lists.{histories-go-on}
+use Rattle.nm_history.specs.Notes.{transitions}
 use Rattle.nm_leg.specs.Leg.{LegType}
 use Rattle.nm_mirror.specs.Ending.{ReplayAll, Replays, end_behind, end_of_held, past_of, pasts_of}
 use Rattle.nm_mirror.specs.LaneState.{LaneState}
@@ -36,27 +37,27 @@ module _ {A : Type 0} where
 
 module _ {L : Type 0} where
   -- one lane more
-  pub lane-closed : (lane : LaneState L) (pass : PassView (Transition L)) (done : List (LaneState L)) (old now new : List (Past (Transition L))) → pass ≡ lane.pass → now ≡ map past_of done ++ old → new ≡ record { who = pass.who; mine = pass.mine } ∷ now → new ≡ map past_of (lane ∷ done) ++ old
+  pub lane-closed : (lane : LaneState L) (pass : PassView (Noted L)) (done : List (LaneState L)) (old now new : List (Past (Noted L))) → pass ≡ lane.pass → now ≡ map past_of done ++ old → new ≡ record { who = pass.who; mine = pass.mine } ∷ now → new ≡ map past_of (lane ∷ done) ++ old
   lane-closed lane pass done old now new is so added =
-      added ∙ ap (λ (p : PassView (Transition L)). let one : Past (Transition L) = record { who = p.who; mine = p.mine } in one ∷ now) is
-      ∙ ap (λ (l : List (Past (Transition L))). past_of lane ∷ l) so
+      added ∙ ap (λ (p : PassView (Noted L)). let one : Past (Noted L) = record { who = p.who; mine = p.mine } in one ∷ now) is
+      ∙ ap (λ (l : List (Past (Noted L))). past_of lane ∷ l) so
 
   -- one pass more
-  pub pass-closed : {J : Type 0} (pass : Pass L J) (done : List (Pass L J)) (old now new : List (Past (Transition L))) → now ≡ pasts_of done ++ old → new ≡ map past_of pass.parts.items ++ now → new ≡ pasts_of (pass ∷ done) ++ old
+  pub pass-closed : {J : Type 0} (pass : Pass L J) (done : List (Pass L J)) (old now new : List (Past (Noted L))) → now ≡ pasts_of done ++ old → new ≡ map past_of pass.parts.items ++ now → new ≡ pasts_of (pass ∷ done) ++ old
   pass-closed pass done old now new so added =
-      added ∙ ap (λ (l : List (Past (Transition L))). map past_of pass.parts.items ++ l) so ∙ sym (append_assoc (map past_of pass.parts.items) (pasts_of done) old)
+      added ∙ ap (λ (l : List (Past (Noted L))). map past_of pass.parts.items ++ l) so ∙ sym (append_assoc (map past_of pass.parts.items) (pasts_of done) old)
 
   -- a keeper of which the transitions lead to what is held is that of its end
-  pub keeper-replays : (type : LegType L) {J : Type 0} {N : _} (held : Held L J N) (keeper : KeeperView (Transition L)) → LeadsTo type keeper.shard (whats keeper.all) held.gated → Replays type (end_of_held held) (record { shard = keeper.shard; all = keeper.all })
+  pub keeper-replays : (type : LegType L) {J : Type 0} {N : _} (held : Held L J N) (keeper : KeeperView (Noted L)) → LeadsTo type keeper.shard (transitions keeper.all) held.gated → Replays type (end_of_held held) (record { shard = keeper.shard; all = keeper.all })
   keeper-replays type held keeper leads = record {
     now = held.gated;
-    number_is = sym ((histories-go-on type).number_is keeper.shard (whats keeper.all) held.gated leads);
+    number_is = sym ((histories-go-on type).number_is keeper.shard (transitions keeper.all) held.gated leads);
     leads = leads;
     ends = refl;
   }
 
   -- one stripe more
-  pub stripe-closed : (type : LegType L) {J : Type 0} {N : _} (one : Unlocked L J N) (done : List (Unlocked L J N)) (keeper : KeeperView (Transition L)) (now new : List (Shard (Transition L))) → LeadsTo type keeper.shard (whats keeper.all) one.held.gated
+  pub stripe-closed : (type : LegType L) {J : Type 0} {N : _} (one : Unlocked L J N) (done : List (Unlocked L J N)) (keeper : KeeperView (Noted L)) (now new : List (Shard (Noted L))) → LeadsTo type keeper.shard (transitions keeper.all) one.held.gated
       → ReplayAll type (map end_behind done) now → new ≡ record { shard = keeper.shard; all = keeper.all } ∷ now → ReplayAll type (map end_behind (one ∷ done)) new
   stripe-closed type one done keeper now new leads so added =
-      subst (λ (shards : List (Shard (Transition L))). ReplayAll type (map end_behind (one ∷ done)) shards) (sym added) (keeper-replays type one.held keeper leads, so)
+      subst (λ (shards : List (Shard (Noted L))). ReplayAll type (map end_behind (one ∷ done)) shards) (sym added) (keeper-replays type one.held keeper leads, so)

@@ -3,19 +3,22 @@ use Rattle.std.proofs.Common.{◌≡◌, ℕ, ◌<◌, Bool, true, false, IsTrue
 use Rattle.std.specs.Prelude.{◌==◌, if◌then◌else◌}
 use Rattle.std.proofs.lemmas.Option.{same_Some}
 use Rattle.nm_book.specs.declared.rule.Entry.{Entry}
-use Rattle.nm_book.specs.Log.{of_shard, whats}
+use Rattle.nm_book.specs.Log.{entry}
 use Rattle.nm_gate.specs.declared.gated_stripe.GatedStripe.{GatedStripe}
 use Rattle.nm_history.specs.declared.transition.Move.{Move}
 use Rattle.nm_history.specs.declared.transition.Move.TheVariants.{Opens, Does, Looks, Saves, Clears, Loses}
+use Rattle.nm_history.specs.declared.transition.Noted.{Noted}
+use Rattle.nm_history.specs.declared.transition.Noted.TheVariants.{Asked, Moved}
 use Rattle.nm_history.specs.declared.transition.Transition.{Transition}
 use Rattle.nm_history.specs.History.{LegalMoves, end_of, last_of}
 use Rattle.nm_history.specs.Laws.{All, IsNoLoss, answers_in, answers_of, steps_in, steps_of}
+use Rattle.nm_history.specs.Notes.{moves_of}
 use Rattle.nm_history.proofs.Acting.{history-acts}
 use Rattle.nm_lanes.specs.Lists.{AreOf, MirrorStep, stripe_list}
 use Rattle.nm_lanes.specs.Lists as lists
 use Rattle.nm_lanes.proofs.Joining.{mirror-acts}
 use Rattle.nm_leg.specs.Leg.{LegType}
-use Rattle.nm_mirror.specs.JointHistory.{AreOfStripes, GoesOnFrom, HistoriesJoin, history_of, step_by, steps_in_log}
+use Rattle.nm_mirror.specs.JointHistory.{AreOfStripes, GoesOnFrom, HistoriesJoin, IsOfStripes, history_of, step_by, step_noted, steps_in_log}
 use Rattle.nm_stripe.specs.declared.answer.Answer.{Answer}
 use Rattle.nm_stripe.specs.declared.step.Step.{Step}
 use Rattle.nm_stripe.specs.Run.{ActOnOneArray}
@@ -50,35 +53,50 @@ module _ {L : Type 0} where
   answer-front s shard (Loses leg) rest more true at ih = ih
   answer-front s shard (Loses leg) rest more false at ih = ih
 
+  -- what is noted in front
+  noted-front : (s shard : ℕ) (what : Noted L) (rest : List (MirrorStep L)) (list : List (Transition L)) (b : Bool) → (shard == s) ≡ b → lists.steps_of s rest ≡ steps_of list → lists.steps_of s (step_noted shard what ++ rest) ≡ steps_of (if b then moves_of (what ∷ []) ++ list else list)
+  noted-front s shard (Moved t) rest list true at ih = step-front s shard t.made rest (steps_of list) true at ih
+  noted-front s shard (Moved t) rest list false at ih = step-front s shard t.made rest (steps_of list) false at ih
+  noted-front s shard (Asked index payload) rest list true at ih = ih
+  noted-front s shard (Asked index payload) rest list false at ih = ih
+
+  noted-answers : (s shard : ℕ) (what : Noted L) (rest : List (MirrorStep L)) (list : List (Transition L)) (b : Bool) → (shard == s) ≡ b → lists.answers_of s rest ≡ answers_of list → lists.answers_of s (step_noted shard what ++ rest) ≡ answers_of (if b then moves_of (what ∷ []) ++ list else list)
+  noted-answers s shard (Moved t) rest list true at ih = answer-front s shard t.made rest (answers_of list) true at ih
+  noted-answers s shard (Moved t) rest list false at ih = answer-front s shard t.made rest (answers_of list) false at ih
+  noted-answers s shard (Asked index payload) rest list true at ih = ih
+  noted-answers s shard (Asked index payload) rest list false at ih = ih
+
   -- an entry in front, of the stripe or of another
-  picked : (s : ℕ) (e : Entry (Transition L)) (log : List (Entry (Transition L))) (b : Bool) → (e.shard == s) ≡ b → history_of s (e ∷ log) ≡ (if b then e.what ∷ history_of s log else history_of s log)
-  picked s e log true at = rw at refl
-  picked s e log false at = rw at refl
+  picked : (s by shard : ℕ) (what : Noted L) (log : List (Entry (Noted L))) (b : Bool) → (shard == s) ≡ b → history_of s (entry by shard what ∷ log) ≡ (if b then moves_of (what ∷ []) ++ history_of s log else history_of s log)
+  picked s by shard (Moved t) log true at = rw at refl
+  picked s by shard (Moved t) log false at = rw at refl
+  picked s by shard (Asked index payload) log true at = rw at refl
+  picked s by shard (Asked index payload) log false at = rw at refl
 
-  steps-are : (s : ℕ) (log : List (Entry (Transition L))) → lists.steps_of s (steps_in_log log) ≡ steps_of (history_of s log)
+  steps-are : (s : ℕ) (log : List (Entry (Noted L))) → lists.steps_of s (steps_in_log log) ≡ steps_of (history_of s log)
   steps-are s [] = refl
-  steps-are s (e ∷ log) = front (e.shard == s) refl (steps-are s log)
-    where
-      front : (b : Bool) → (e.shard == s) ≡ b → lists.steps_of s (steps_in_log log) ≡ steps_of (history_of s log) → lists.steps_of s (steps_in_log (e ∷ log)) ≡ steps_of (history_of s (e ∷ log))
-      front true at ih = step-front s e.shard e.what.made (steps_in_log log) (steps_of (history_of s log)) true at ih ∙ sym (ap (λ (l : List (Transition L)). steps_of l) (picked s e log true at))
-      front false at ih = step-front s e.shard e.what.made (steps_in_log log) (steps_of (history_of s log)) false at ih ∙ sym (ap (λ (l : List (Transition L)). steps_of l) (picked s e log false at))
+  steps-are s (e ∷ log) =
+      noted-front s e.shard e.what (steps_in_log log) (history_of s log) (e.shard == s) refl (steps-are s log)
+      ∙ sym (ap (λ (l : List (Transition L)). steps_of l) (picked s e.by e.shard e.what log (e.shard == s) refl))
 
-  answers-are : (s : ℕ) (log : List (Entry (Transition L))) → lists.answers_of s (steps_in_log log) ≡ answers_of (history_of s log)
+  answers-are : (s : ℕ) (log : List (Entry (Noted L))) → lists.answers_of s (steps_in_log log) ≡ answers_of (history_of s log)
   answers-are s [] = refl
-  answers-are s (e ∷ log) = front (e.shard == s) refl (answers-are s log)
-    where
-      front : (b : Bool) → (e.shard == s) ≡ b → lists.answers_of s (steps_in_log log) ≡ answers_of (history_of s log) → lists.answers_of s (steps_in_log (e ∷ log)) ≡ answers_of (history_of s (e ∷ log))
-      front true at ih = answer-front s e.shard e.what.made (steps_in_log log) (answers_of (history_of s log)) true at ih ∙ sym (ap (λ (l : List (Transition L)). answers_of l) (picked s e log true at))
-      front false at ih = answer-front s e.shard e.what.made (steps_in_log log) (answers_of (history_of s log)) false at ih ∙ sym (ap (λ (l : List (Transition L)). answers_of l) (picked s e log false at))
+  answers-are s (e ∷ log) =
+      noted-answers s e.shard e.what (steps_in_log log) (history_of s log) (e.shard == s) refl (answers-are s log)
+      ∙ sym (ap (λ (l : List (Transition L)). answers_of l) (picked s e.by e.shard e.what log (e.shard == s) refl))
+
+  in-front : (b : Bool) (what : Noted L) (all one two : List (Transition L)) → all ≡ one ++ two → (if b then moves_of (what ∷ []) ++ all else all) ≡ (if b then moves_of (what ∷ []) ++ one else one) ++ two
+  in-front true (Moved t) all one two is = ap (λ (l : List (Transition L)). t ∷ l) is
+  in-front true (Asked index payload) all one two is = is
+  in-front false what all one two is = is
 
   -- what a stripe has of two logs, one after the other
-  history-append : (s : ℕ) (before later : List (Entry (Transition L))) → history_of s (before ++ later) ≡ history_of s before ++ history_of s later
+  history-append : (s : ℕ) (before later : List (Entry (Noted L))) → history_of s (before ++ later) ≡ history_of s before ++ history_of s later
   history-append s [] later = refl
-  history-append s (e ∷ before) later = front (e.shard == s) refl (history-append s before later)
-    where
-      front : (b : Bool) → (e.shard == s) ≡ b → history_of s (before ++ later) ≡ history_of s before ++ history_of s later → history_of s ((e ∷ before) ++ later) ≡ history_of s (e ∷ before) ++ history_of s later
-      front true at ih = picked s e (before ++ later) true at ∙ ap (λ (l : List (Transition L)). e.what ∷ l) ih ∙ sym (ap (λ (l : List (Transition L)). l ++ history_of s later) (picked s e before true at))
-      front false at ih = picked s e (before ++ later) false at ∙ ih ∙ sym (ap (λ (l : List (Transition L)). l ++ history_of s later) (picked s e before false at))
+  history-append s (e ∷ before) later =
+      picked s e.by e.shard e.what (before ++ later) (e.shard == s) refl
+      ∙ in-front (e.shard == s) e.what (history_of s (before ++ later)) (history_of s before) (history_of s later) (history-append s before later)
+      ∙ sym (ap (λ (l : List (Transition L)). l ++ history_of s later) (picked s e.by e.shard e.what before (e.shard == s) refl))
 
   step-of : (stripes shard : ℕ) (made : Move L) (rest : List (MirrorStep L)) → shard < stripes → AreOf stripes rest → AreOf stripes (step_by shard made ++ rest)
   step-of stripes shard (Does step answer) rest inside are = (inside, are)
@@ -88,9 +106,13 @@ module _ {L : Type 0} where
   step-of stripes shard Clears rest inside are = are
   step-of stripes shard (Loses leg) rest inside are = are
 
-  steps-of-stripes : (stripes : ℕ) (log : List (Entry (Transition L))) → AreOfStripes stripes log → AreOf stripes (steps_in_log log)
+  noted-of : (stripes shard : ℕ) (what : Noted L) (rest : List (MirrorStep L)) → IsOfStripes stripes shard what → AreOf stripes rest → AreOf stripes (step_noted shard what ++ rest)
+  noted-of stripes shard (Moved t) rest inside are = step-of stripes shard t.made rest inside are
+  noted-of stripes shard (Asked index payload) rest inside are = are
+
+  steps-of-stripes : (stripes : ℕ) (log : List (Entry (Noted L))) → AreOfStripes stripes log → AreOf stripes (steps_in_log log)
   steps-of-stripes stripes [] are = tt
-  steps-of-stripes stripes (e ∷ log) are = step-of stripes e.shard e.what.made (steps_in_log log) are.0 (steps-of-stripes stripes log are.1)
+  steps-of-stripes stripes (e ∷ log) are = noted-of stripes e.shard e.what (steps_in_log log) are.0 (steps-of-stripes stripes log are.1)
 
   -- the last transition of a list that leads somewhere
   record LastOf (list : List (Transition L)) (now : GatedStripe L) : Type 0 where
@@ -111,7 +133,7 @@ module _ {L : Type 0} where
 
   module _ (type : LegType L) (is_honest : IsTrue type.honest) where
     -- of one stripe
-    acts-on : (stripes : ℕ) (before later : List (Entry (Transition L))) (from : ℕ → GatedStripe L) → GoesOnFrom type stripes before later from → (s : ℕ) → s < stripes
+    acts-on : (stripes : ℕ) (before later : List (Entry (Noted L))) (from : ℕ → GatedStripe L) → GoesOnFrom type stripes before later from → (s : ℕ) → s < stripes
         → ActOnOneArray type.model (steps_of (history_of s later)) (answers_of (history_of s later)) (from s).stripe (end_of (from s) (history_of s later)).stripe
     acts-on stripes before later from on s inside =
         let l = the-last (history_of s before) (from s) (on.led s inside) in

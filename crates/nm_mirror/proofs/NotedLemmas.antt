@@ -7,17 +7,17 @@ use Rattle.nm_gate.specs.declared.gated_stripe.GatedStripe.{GatedStripe}
 use Rattle.nm_gate.specs.Durable.{Durable}
 use Rattle.nm_gate.specs.Gate.{IsAllowed}
 use Rattle.nm_history.specs.declared.transition.Move.TheVariants.{Does}
-use Rattle.nm_history.specs.declared.transition.Transition.{Transition}
-use Rattle.nm_history.specs.History.{LegalMoves}
+use Rattle.nm_history.specs.declared.transition.Noted.{Noted}
 use Rattle.nm_history.specs.Lost.{none_lost}
 use Rattle.nm_history.specs.Moves.{JoinsMarked, MoveOf}
+use Rattle.nm_history.specs.Notes.{LegalNotes}
 use Rattle.nm_lanes.specs.Answers.{answer_of_push}
 use Rattle.nm_lanes.specs.Done.{Done, done_as}
 use Rattle.nm_leg.specs.Leg.{LegType}
 use Rattle.nm_mirror.specs.Counting.{Follows, IsGone, IsNotSaved, WasNotAsked}
 use Rattle.nm_mirror.specs.Joining.{notes-none}
 use Rattle.nm_mirror.specs.LaneState.{LaneState, lane_of}
-use Rattle.nm_mirror.specs.Trail.{MadeIf, NotesAll, noted_if}
+use Rattle.nm_mirror.specs.Trail.{MadeIf, NotesMoves, noted_if}
 use Rattle.nm_mirror.proofs.TrailLemmas.{told}
 use Rattle.nm_part.specs.Asking.{AsksStripe, GoesAstray, GoesOn, MayAsk}
 use Rattle.nm_part.specs.PartState.{PartState}
@@ -83,26 +83,26 @@ module _ {L : Type 0} (type : LegType L) (step : Step L) (answer : Answer L) whe
         made-so true on = absurd (told_so on is)
         made-so false off = ap (λ (s : StripeState L). let g : GatedStripe L = record { stripe = s; durable = old.durable } in g) stays
 
-    module _ (later : PartState) (before after : PassView (Transition L)) (counted : later ≡ part_after answer part) where
+    module _ (later : PartState) (before after : PassView (Noted L)) (counted : later ≡ part_after answer part) where
       -- so the lane goes on
-      pub asks-follow : NotesAll (LegalMoves type) new.place.stripe (noted_if made (told type (Does step answer) now)) before after → AsksStripe type step answer part (old.stripe, new)
+      pub asks-follow : NotesMoves type new.place.stripe (noted_if made (told type (Does step answer) now)) before after → AsksStripe type step answer part (old.stripe, new)
           → Follows type (lane_of part before) (done_as step answer ∷ []) (lane_of later after)
       asks-follow notes (GoesOn may does) = follow-so made refl notes
         where
           number : new.place.stripe ≡ part.stripe
           number = ap (λ place. place.stripe) (step-shape type step answer old.stripe new does).place ∙ own-number part old.stripe may.0
 
-          follow-so : (b : Bool) → made ≡ b → NotesAll (LegalMoves type) new.place.stripe (noted_if b (told type (Does step answer) now)) before after → Follows type (lane_of part before) (done_as step answer ∷ []) (lane_of later after)
+          follow-so : (b : Bool) → made ≡ b → NotesMoves type new.place.stripe (noted_if b (told type (Does step answer) now)) before after → Follows type (lane_of part before) (done_as step answer ∷ []) (lane_of later after)
           follow-so true is notes = record {
             counted = counted;
             made = told type (Does step answer) now ∷ [];
             noted = inl (now, [], refl, refl);
-            log = subst (λ (shard : ℕ). NotesAll (LegalMoves type) shard (told type (Does step answer) now ∷ []) before after) number notes;
+            log = subst (λ (shard : ℕ). NotesMoves type shard (told type (Does step answer) now ∷ []) before after) number notes;
           }
           follow-so false is notes = absurd (not_so is does)
       asks-follow notes (GoesAstray never is stays) = follow-so made refl notes
         where
-          follow-so : (b : Bool) → made ≡ b → NotesAll (LegalMoves type) new.place.stripe (noted_if b (told type (Does step answer) now)) before after → Follows type (lane_of part before) (done_as step answer ∷ []) (lane_of later after)
+          follow-so : (b : Bool) → made ≡ b → NotesMoves type new.place.stripe (noted_if b (told type (Does step answer) now)) before after → Follows type (lane_of part before) (done_as step answer ∷ []) (lane_of later after)
           follow-so true on notes = absurd (told_so on is)
           follow-so false off notes = record {
             counted = counted;
@@ -145,7 +145,7 @@ module _ {L : Type 0} (type : LegType L) (lane : LaneState L) (done : Done L) wh
     counted = sym stays;
     made = [];
     noted = inr (not, refl);
-    log = notes-none (LegalMoves type) lane.part.stripe lane.pass;
+    log = notes-none (LegalNotes type) lane.part.stripe lane.pass;
   }
 
   pub not-saved : IsNotSaved done → Follows type lane (done ∷ []) lane

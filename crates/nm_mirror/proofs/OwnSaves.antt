@@ -9,17 +9,16 @@ use Rattle.nm_gate.specs.Returning.{suspects}
 use Rattle.nm_gate.specs.Settling.{MayClear, MaySettle}
 use Rattle.nm_history.proofs.Told.{moves-told}
 use Rattle.nm_history.specs.declared.transition.Move.TheVariants.{Does}
-use Rattle.nm_history.specs.declared.transition.Transition.{Transition}
-use Rattle.nm_history.specs.History.{LegalMoves}
+use Rattle.nm_history.specs.declared.transition.Noted.{Noted}
 use Rattle.nm_history.specs.Lost.{none_lost}
 use Rattle.nm_history.specs.Moves.{MoveOf}
 use Rattle.nm_history.specs.Telling.{ReturnsBehind, answer_of_return}
+use Rattle.nm_mirror.specs.Trail.{NotesMoves}
 use Rattle.nm_leg.specs.Leg.{LegType}
 use Rattle.nm_mirror.specs.Asks.{LetsPass}
 use Rattle.nm_mirror.specs.Holding.{with_gated, with_stripe}
 use Rattle.nm_mirror.specs.OwnNotes.{NotesStep}
 use Rattle.nm_mirror.specs.Settling.{SyncsFirst}
-use Rattle.nm_mirror.specs.Trail.{NotesAll}
 use Rattle.nm_mirror.proofs.OwnSteps.{own-noted}
 use Rattle.nm_mirror.proofs.TrailLemmas.{told}
 use Rattle.nm_mirror.specs.declared.ask.Ask.TheVariants.{Answer as Answers}
@@ -53,12 +52,12 @@ returns-move type leg result old new is =
     (inl ((moves-told type).returns leg result old new is))
 
 -- and is noted so among the transitions of the stripe before it
-pub return-noted : {L : Type 0} (type : LegType L) (leg : ℕ) (result : Result ℕ Refusal) (old new : GatedStripe L) (before after : PassView (Transition L)) → ReturnsBehind type leg result old new
-    → NotesAll (LegalMoves type) new.stripe.place.stripe (told type (Does (Return leg (suspects leg new.durable)) (answer_of_return result)) new ∷ []) before after
+pub return-noted : {L : Type 0} (type : LegType L) (leg : ℕ) (result : Result ℕ Refusal) (old new : GatedStripe L) (before after : PassView (Noted L)) → ReturnsBehind type leg result old new
+    → NotesMoves type new.stripe.place.stripe (told type (Does (Return leg (suspects leg new.durable)) (answer_of_return result)) new ∷ []) before after
     → NotesStep type (Return leg (suspects leg old.durable)) (answer_of_return result) (old, new) before after
 return-noted type leg result old new before after is notes =
     own-noted type (Return leg (suspects leg old.durable)) (answer_of_return result) old.stripe new.stripe _ before after ((moves-told type).returns leg result old new is).does
-    (subst (λ (o : Option Durable). NotesAll (LegalMoves type) new.stripe.place.stripe (told type (Does (Return leg (suspects leg o)) (answer_of_return result)) new ∷ []) before after) is.durable notes)
+    (subst (λ (o : Option Durable). NotesMoves type new.stripe.place.stripe (told type (Does (Return leg (suspects leg o)) (answer_of_return result)) new ∷ []) before after) is.durable notes)
 
 -- the answer of a replacement
 abbrev pub answer_of_replace : {L : Type 0} → Result ℕ (Refusal × L) → Answer L

@@ -1,12 +1,12 @@
 -- What a stripe's method promises of a step that no pass counts is what the step promises of the answer that it stands for.
 use Rattle.std.proofs.Common.{◌≡◌, ℕ, List, Some, Result, Ok, Err, IfOk, IfErr, OnErr, refl, ap, subst}
 use Rattle.nm_book.specs.Log.{PassView}
+use Rattle.nm_history.specs.declared.transition.Noted.{Noted}
 use Rattle.nm_history.specs.declared.transition.Transition.{Transition}
-use Rattle.nm_history.specs.History.{LegalMoves}
+use Rattle.nm_mirror.specs.Trail.{NotesMoves}
 use Rattle.nm_leg.specs.Leg.{LegType}
 use Rattle.nm_lanes.specs.Answers.{answer_of_claim, lost_with_nothing, refused_with_nothing}
 use Rattle.nm_mirror.specs.OwnNotes.{answer_of_fail}
-use Rattle.nm_mirror.specs.Trail.{NotesAll}
 use Rattle.nm_rules.specs.declared.refusal.Refusal.{Refusal}
 use Rattle.nm_rules.specs.Failing.{fail_cause}
 use Rattle.nm_rules.specs.Promote.{promote_cause}
@@ -49,7 +49,7 @@ module _ {L : Type 0} (type : LegType L) (old new : StripeState L) where
   promote-step leg (Err refusal) ok cause stays = (cause, refl, stays)
 
 -- a step is noted among those of the stripe before it, too
-pub own-noted : {L : Type 0} (type : LegType L) (step : Step L) (answer : Answer L) (old new : StripeState L) (list : List (Transition L)) (before after : PassView (Transition L)) → StepOf type step answer old new
-    → NotesAll (LegalMoves type) new.place.stripe list before after → NotesAll (LegalMoves type) old.place.stripe list before after
+pub own-noted : {L : Type 0} (type : LegType L) (step : Step L) (answer : Answer L) (old new : StripeState L) (list : List (Transition L)) (before after : PassView (Noted L)) → StepOf type step answer old new
+    → NotesMoves type new.place.stripe list before after → NotesMoves type old.place.stripe list before after
 own-noted type step answer old new list before after does notes =
-    subst (λ (shard : ℕ). NotesAll (LegalMoves type) shard list before after) (ap (λ place. place.stripe) (step-shape type step answer old new does).place) notes
+    subst (λ (shard : ℕ). NotesMoves type shard list before after) (ap (λ place. place.stripe) (step-shape type step answer old new does).place) notes

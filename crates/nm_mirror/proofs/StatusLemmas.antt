@@ -2,7 +2,7 @@
 use Rattle.std.proofs.Common.{List, [], ◌∷◌, ◌++◌, length, refl, ◌∙◌}
 use Rattle.nm_book.specs.Log.{PassView}
 use Rattle.nm_book.proofs.Lists.{prefix_self, prefix_trans}
-use Rattle.nm_history.specs.declared.transition.Transition.{Transition}
+use Rattle.nm_history.specs.declared.transition.Noted.{Noted}
 use Rattle.nm_leg.specs.Leg.{LegType}
 use Rattle.nm_rules.specs.State.{StripeState}
 use Rattle.nm_mirror.proofs.Places.{one_more}
@@ -13,7 +13,7 @@ use Rattle.nm_mirror.specs.declared.status.StripeStatus.{StripeStatus}
 pub legs_more : {L : Type 0} (stripe : StripeState L) (legs : List LegStatus) (one : LegStatus) → EachIsLeg stripe legs → IsLeg stripe (length legs) one → EachIsLeg stripe (legs ++ one ∷ [])
 legs_more stripe legs one each here = one_more (λ leg told. IsLeg stripe leg told) legs one each here
 
-module _ {L : Type 0} (type : LegType L) (first mid last : PassView (Transition L)) where
+module _ {L : Type 0} (type : LegType L) (first mid last : PassView (Noted L)) where
   -- looks of which each begins where the one before ended
   pub only-on : OnlySees first mid → OnlySees mid last → OnlySees first last
   only-on here there = record {
@@ -37,5 +37,5 @@ module _ {L : Type 0} (type : LegType L) (first mid last : PassView (Transition 
       })
 
 -- a pass that does not look
-pub only-none : {L : Type 0} (pass : PassView (Transition L)) → OnlySees pass pass
+pub only-none : {L : Type 0} (pass : PassView (Noted L)) → OnlySees pass pass
 only-none pass = record { who = refl; mine = refl; goes_on = prefix_self pass.seen }

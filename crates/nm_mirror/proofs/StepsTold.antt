@@ -11,12 +11,11 @@ use Rattle.nm_fanout.specs.Records.{busy_among}
 use Rattle.nm_gate.specs.declared.gated_stripe.GatedStripe.{GatedStripe}
 use Rattle.nm_gate.specs.Gate.{IsAllowed}
 use Rattle.nm_history.specs.declared.transition.Move.TheVariants.{Does}
-use Rattle.nm_history.specs.declared.transition.Transition.{Transition}
-use Rattle.nm_history.specs.History.{LegalMoves}
+use Rattle.nm_history.specs.declared.transition.Noted.{Noted}
 use Rattle.nm_history.specs.Moves.{JoinsMarked}
 use Rattle.nm_lanes.specs.Answers.{answer_of_begin, answer_of_claim, answer_of_copy, answer_of_read, answer_of_sync}
 use Rattle.nm_leg.specs.Leg.{LegType, blocks_in}
-use Rattle.nm_mirror.specs.Trail.{MadeIf, NotesAll, noted_if}
+use Rattle.nm_mirror.specs.Trail.{MadeIf, NotesMoves, noted_if}
 use Rattle.nm_mirror.proofs.NotedLemmas.{IsOther, asks-made, first-other, when-other}
 use Rattle.nm_mirror.proofs.TrailLemmas.{told}
 use Rattle.nm_part.specs.Asking.{AsksStripe, GoesAstray, GoesOn}
@@ -166,5 +165,5 @@ module _ {L : Type 0} (type : LegType L) (plan step : Step L) (same : plan ≡ s
   pub made-planned : (old now : GatedStripe L) → MadeIf type made (Does step answer) old now → MadeIf type made (Does plan answer) old now
   made-planned old now is = subst (λ (s : Step L). MadeIf type made (Does s answer) old now) (sym same) is
 
-  pub noted-planned : (shard : ℕ) (now : GatedStripe L) (before after : PassView (Transition L)) → NotesAll (LegalMoves type) shard (noted_if made (told type (Does plan answer) now)) before after → NotesAll (LegalMoves type) shard (noted_if made (told type (Does step answer) now)) before after
-  noted-planned shard now before after notes = subst (λ (s : Step L). NotesAll (LegalMoves type) shard (noted_if made (told type (Does s answer) now)) before after) same notes
+  pub noted-planned : (shard : ℕ) (now : GatedStripe L) (before after : PassView (Noted L)) → NotesMoves type shard (noted_if made (told type (Does plan answer) now)) before after → NotesMoves type shard (noted_if made (told type (Does step answer) now)) before after
+  noted-planned shard now before after notes = subst (λ (s : Step L). NotesMoves type shard (noted_if made (told type (Does s answer) now)) before after) same notes

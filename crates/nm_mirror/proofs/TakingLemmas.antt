@@ -10,7 +10,7 @@ use Rattle.nm_gate.specs.declared.leg_claims.LegClaims.{LegClaims}
 use Rattle.nm_mirror.specs.Replacing.{called_whole}
 use Rattle.nm_mirror.specs.Saves.{IsJoined}
 use Rattle.nm_book.specs.Log.{PassView}
-use Rattle.nm_history.specs.declared.transition.Transition.{Transition}
+use Rattle.nm_history.specs.declared.transition.Noted.{Noted}
 use Rattle.nm_leg.specs.Leg.{LegType}
 use Rattle.nm_mirror.specs.Counted.{OneMore, Start}
 use Rattle.nm_mirror.specs.Saving.{AreAmong, BeginsAt, BeginsSo, IsTaken, Takes, claims_in}
@@ -155,11 +155,11 @@ takes held whole marks number one claims old new are few joined at is called wri
     }
 
 -- no stripe yet
-pub saves_none : {L : Type 0} (type : LegType L) (so : (old new : GatedStripe L) → Type 0) (pass : PassView (Transition L)) → SavesEach type so 0 pass pass
+pub saves_none : {L : Type 0} (type : LegType L) (so : (old new : GatedStripe L) → Type 0) (pass : PassView (Noted L)) → SavesEach type so 0 pass pass
 saves_none type so pass = Start
 
 -- one more began
-pub saves_more : {L : Type 0} (type : LegType L) (count : ℕ) (marked : List Bool) (held now : GatedStripe L) (first old new : PassView (Transition L)) → SavesEach type BeginsSo count first old
+pub saves_more : {L : Type 0} (type : LegType L) (count : ℕ) (marked : List Bool) (held now : GatedStripe L) (first old new : PassView (Noted L)) → SavesEach type BeginsSo count first old
     → held.stripe.place.stripe ≡ count → BeginsAt marked held now → NotesSave type now old new → SavesEach type BeginsSo (count + 1) first new
 saves_more type count marked held now first old new before number begins notes =
     OneMore count old new before (record { held = (held, now); number_is = number; so_is = (marked, begins); notes = notes })

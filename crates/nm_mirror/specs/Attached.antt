@@ -2,7 +2,7 @@
 use Rattle.std.specs.Prelude.{◌≡◌, ℕ, ◌<◌, ◌≤◌, Bool, true, false, length, Some}
 use Rattle.nm_book.specs.Log.{PassView}
 use Rattle.nm_gate.specs.declared.gated_stripe.GatedStripe.{GatedStripe}
-use Rattle.nm_history.specs.declared.transition.Transition.{Transition}
+use Rattle.nm_history.specs.declared.transition.Noted.{Noted}
 use Rattle.nm_leg.specs.Leg.{LegType}
 use Rattle.nm_mirror.specs.Counted.{CountsEach, FailsEach}
 use Rattle.nm_mirror.specs.Counts.{attached_so, attaches}
@@ -28,7 +28,7 @@ unchanged false counts = attached_so (Some NotOut) 0 counts
 -- What is counted and noted of the stripe of this number: in a hold of it the leg joined, or may
 -- not; or the stripe has no such leg; or no superblock can be saved that lets it join.
 pub data AttachesIn {L : Type 0} (type : LegType L) (leg number : ℕ)
-    (old new : AttachCounts × PassView (Transition L)) : Type 0 where
+    (old new : AttachCounts × PassView (Noted L)) : Type 0 where
   Asked : (held : GatedStripe L × GatedStripe L) → held.0.stripe.place.stripe ≡ number
       → leg < length held.0.stripe.legs
       → new.0 ≡ attached_so (attach_cause held.0.stripe leg) (left leg held.1.stripe) old.0
@@ -39,20 +39,20 @@ pub data AttachesIn {L : Type 0} (type : LegType L) (leg number : ℕ)
 
 -- so it is of each of so many stripes, in order
 abbrev pub AttachesEach : {L : Type 0} → LegType L → (leg stripes : ℕ)
-    → (old : PassView (Transition L)) → AttachCounts × PassView (Transition L) → Type 0
+    → (old : PassView (Noted L)) → AttachCounts × PassView (Noted L) → Type 0
 AttachesEach type leg stripes old new =
     CountsEach (AttachesIn type leg) (no_attaches, old) stripes new
 
 -- where the leg may have lost something everywhere, it is first taken out of each stripe
 abbrev pub GoesOutFirst : {L : Type 0} → LegType L → (leg stripes : ℕ) → Returning
-    → (old new : PassView (Transition L)) → Type 0
+    → (old new : PassView (Noted L)) → Type 0
 GoesOutFirst type leg stripes Everywhere old new =
     (counts : FailCounts) × FailsEach type leg stripes old (counts, new)
 GoesOutFirst type leg stripes WhereOut old new = new ≡ old
 
 -- the leg was out in no stripe, and nothing was done; or it joins each again in which it is out
 pub data AttachesLeg {L : Type 0} (type : LegType L) (leg stripes : ℕ) (returning : Returning)
-    (old : PassView (Transition L)) (new : AttachCounts × PassView (Transition L)) : Type 0 where
+    (old : PassView (Noted L)) (new : AttachCounts × PassView (Noted L)) : Type 0 where
   OutNowhere : new.0.joining ≡ 0 → new.1 ≡ old → AttachesLeg type leg stripes returning old new
-  Joins : (mid : PassView (Transition L)) → GoesOutFirst type leg stripes returning old mid
+  Joins : (mid : PassView (Noted L)) → GoesOutFirst type leg stripes returning old mid
       → AttachesEach type leg stripes mid new → AttachesLeg type leg stripes returning old new

@@ -3,7 +3,7 @@ use Rattle.std.specs.Prelude.{◌≡◌, ℕ, ◌+◌, nat_le, if◌then◌else�
 use Rattle.std.specs.Prelude.{◌∷◌, length, Option, None, IsSome}
 use Rattle.nm_book.specs.Log.{PassView}
 use Rattle.nm_gate.specs.declared.gated_stripe.GatedStripe.{GatedStripe}
-use Rattle.nm_history.specs.declared.transition.Transition.{Transition}
+use Rattle.nm_history.specs.declared.transition.Noted.{Noted}
 use Rattle.nm_leg.specs.Leg.{LegType}
 use Rattle.nm_rules.specs.Cause.{first_cause, when}
 use Rattle.nm_rules.specs.Failing.{GoesOut, fail_rows}
@@ -31,7 +31,7 @@ fail_answer stripe leg = first_cause
 -- in a hold of a stripe of this number the leg went out, or stays as it was: either is counted,
 -- and the pass notes it
 pub record FailsIn {L : Type 0} (type : LegType L) (leg number : ℕ)
-    (old new : FailCounts × PassView (Transition L)) : Type 0 where
+    (old new : FailCounts × PassView (Noted L)) : Type 0 where
   pub held : GatedStripe L × GatedStripe L
   pub number_is : held.0.stripe.place.stripe ≡ number
   pub counts : new.0 ≡ failed_so (fail_answer held.0.stripe leg) old.0
@@ -46,7 +46,7 @@ no_fails = record { failed = 0; last = 0; out = 0; stopped = 0 }
 -- each of so many stripes was held once, and the leg taken out where it could be: so it counts,
 -- and the pass that was so before notes each in turn
 abbrev pub FailsEach : {L : Type 0} → LegType L → (leg stripes : ℕ)
-    → (old : PassView (Transition L)) → FailCounts × PassView (Transition L) → Type 0
+    → (old : PassView (Noted L)) → FailCounts × PassView (Noted L) → Type 0
 FailsEach type leg stripes old new = CountsEach (FailsIn type leg) (no_fails, old) stripes new
 
 -- in a hold of a stripe of this number it is counted if it has stopped

@@ -3,11 +3,10 @@ use Rattle.std.specs.Prelude.{◌≡◌, ◌⊎◌, ℕ, List, [], ◌∷◌}
 use Rattle.nm_gate.specs.declared.gated_stripe.GatedStripe.{GatedStripe}
 use Rattle.nm_history.specs.declared.transition.Move.TheVariants.{Does}
 use Rattle.nm_history.specs.declared.transition.Transition.{Transition}
-use Rattle.nm_history.specs.History.{LegalMoves}
+use Rattle.nm_mirror.specs.Trail.{NotesMoves}
 use Rattle.nm_lanes.specs.Done.{Done}
 use Rattle.nm_leg.specs.Leg.{LegType}
 use Rattle.nm_mirror.specs.LaneState.{LaneState}
-use Rattle.nm_mirror.specs.Trail.{NotesAll}
 use Rattle.nm_part.specs.Asking.{MayAsk}
 use Rattle.nm_part.specs.PartState.{PartState}
 use Rattle.nm_part.specs.Parts.{astray, handed_in, part_after}
@@ -72,4 +71,4 @@ pub record Follows {L : Type 0} (type : LegType L) (old : LaneState L) (list : L
   pub counted : new.part ≡ part_after_all list old.part
   pub made : List (Transition L)
   pub noted : AreNoted type old.part list made
-  pub log : NotesAll (LegalMoves type) old.part.stripe made old.pass new.pass
+  pub log : NotesMoves type old.part.stripe made old.pass new.pass

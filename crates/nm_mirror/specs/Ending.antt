@@ -2,10 +2,11 @@
 use Rattle.std.specs.Prelude.{◌≡◌, List, [], ◌∷◌, ◌++◌, map}
 use Rattle.nm_book.specs.declared.rule.Past.{Past}
 use Rattle.nm_book.specs.declared.rule.Shard.{Shard}
-use Rattle.nm_book.specs.Log.{OneLog, whats}
+use Rattle.nm_book.specs.Log.{OneLog}
 use Rattle.nm_gate.specs.declared.gated_stripe.GatedStripe.{GatedStripe}
-use Rattle.nm_history.specs.declared.transition.Transition.{Transition}
-use Rattle.nm_history.specs.History.{LeadsTo, LegalMoves}
+use Rattle.nm_history.specs.declared.transition.Noted.{Noted}
+use Rattle.nm_history.specs.History.{LeadsTo}
+use Rattle.nm_history.specs.Notes.{LegalNotes, transitions}
 use Rattle.nm_leg.specs.Leg.{LegType}
 use Rattle.nm_mirror.specs.LaneState.{LaneState}
 use Rattle.nm_mirror.specs.Reopening.{EndOfOpenings}
@@ -15,11 +16,11 @@ use Rattle.nm_mirror.specs.declared.pass.Pass.{Pass}
 use Rattle.nm_stripe.specs.End.{end_of}
 
 -- the pass of a lane through the log, once its calls are over
-abbrev pub past_of : {L : Type 0} → LaneState L → Past (Transition L)
+abbrev pub past_of : {L : Type 0} → LaneState L → Past (Noted L)
 past_of lane = record { who = lane.pass.who; mine = lane.pass.mine }
 
 -- those of all parts of these passes, in order
-abbrev pub pasts_of : {L J : Type 0} → List (Pass L J) → List (Past (Transition L))
+abbrev pub pasts_of : {L J : Type 0} → List (Pass L J) → List (Past (Noted L))
 pasts_of [] = []
 pasts_of (pass ∷ passes) = map past_of pass.parts.items ++ pasts_of passes
 
@@ -33,14 +34,14 @@ end_behind unlocked = end_of_held unlocked.held
 
 -- the shard has the history of the stripe of this end, and leads to a stripe that ends so
 pub record Replays {L : Type 0} (type : LegType L) (end : EndOfOpenings)
-    (shard : Shard (Transition L)) : Type 0 where
+    (shard : Shard (Noted L)) : Type 0 where
   pub now : GatedStripe L
   pub number_is : shard.shard ≡ end.last.stripe
-  pub leads : LeadsTo type shard.shard (whats shard.all) now
+  pub leads : LeadsTo type shard.shard (transitions shard.all) now
   pub ends : end.last ≡ end_of now.stripe
 
 -- so it is of each end and the shard of its place
-abbrev pub ReplayAll : {L : Type 0} → LegType L → List EndOfOpenings → List (Shard (Transition L))
+abbrev pub ReplayAll : {L : Type 0} → LegType L → List EndOfOpenings → List (Shard (Noted L))
     → Type 0
 ReplayAll type [] [] = Unit {0}
 ReplayAll type (end ∷ ends) (shard ∷ shards) = Replays type end shard × ReplayAll type ends shards
@@ -51,6 +52,6 @@ ReplayAll type ends shards = ⊥
 -- passes, each once, in the order of its part, and no two parts are one pass of the log.
 pub record EndInOneLog {L J : Type 0} (type : LegType L) (passes : List (Pass L J))
     (ends : List EndOfOpenings) : Type 0 where
-  pub shards : List (Shard (Transition L))
-  pub one : OneLog (LegalMoves type) (pasts_of passes) shards
+  pub shards : List (Shard (Noted L))
+  pub one : OneLog (LegalNotes type) (pasts_of passes) shards
   pub replays : ReplayAll type ends shards

@@ -1,17 +1,19 @@
 -- Lists of steps of a lane, one after the other, are one.
-use Rattle.std.specs.Prelude.{◌≡◌, ◌⊎◌, ℕ, List, [], ◌∷◌, ◌++◌, refl}
+use Rattle.std.specs.Prelude.{◌≡◌, ◌⊎◌, ℕ, List, [], ◌∷◌, ◌++◌, map, refl}
 use Rattle.std.proofs.Common.{inl, inr, ⊎_elim, sym, ap, subst, ◌∙◌, append_assoc}
-use Rattle.std.proofs.lemmas.List.{append-nil}
+use Rattle.std.proofs.lemmas.List.{append-nil, map-append}
 use Rattle.nm_book.specs.declared.rule.Entry.{Entry}
 use Rattle.nm_book.specs.Log.{PassView, calls_by}
 use Rattle.nm_book.proofs.Lists.{calls_append}
+use Rattle.nm_history.specs.declared.transition.Noted.{Noted}
+use Rattle.nm_history.specs.declared.transition.Noted.TheVariants.{Moved}
 use Rattle.nm_history.specs.declared.transition.Transition.{Transition}
-use Rattle.nm_history.specs.History.{LegalMoves}
+use Rattle.nm_history.specs.Notes.{LegalNotes}
 use Rattle.nm_lanes.specs.Done.{Done}
 use Rattle.nm_leg.specs.Leg.{LegType}
 use Rattle.nm_mirror.specs.Counting.{AreNoted, Follows, part_after_all}
 use Rattle.nm_mirror.specs.LaneState.{LaneState}
-use Rattle.nm_mirror.specs.Trail.{NotesAll, entries}
+use Rattle.nm_mirror.specs.Trail.{NotesAll, NotesMoves, entries}
 use Rattle.nm_part.specs.PartState.{PartState}
 use Rattle.nm_part.specs.Parts.{part_after}
 use Rattle.nm_stripe.specs.declared.answer.Answer.{Answer}
@@ -66,6 +68,16 @@ module _ {E : Type 0} where
             ap (λ (who : ℕ). entries old.who shard xs ++ entries who shard ys) here.who
             ∙ sym (entries-append old.who shard xs ys)
 
+-- one list of transitions after the other
+moves-append : {L : Type 0} (type : LegType L) (shard : ℕ) (xs ys : List (Transition L))
+    (old mid new : PassView (Noted L)) → NotesMoves type shard xs old mid
+    → NotesMoves type shard ys mid new → NotesMoves type shard (xs ++ ys) old new
+moves-append {L} type shard xs ys old mid new here there =
+    subst (λ (list : List (Noted L)). NotesAll (LegalNotes type) shard list old new)
+    (sym (map-append (λ (t : Transition L). Moved t) xs ys))
+    (notes-append (LegalNotes type) shard (map (λ (t : Transition L). Moved t) xs)
+    (map (λ (t : Transition L). Moved t) ys) old mid new here there)
+
 -- no answer changes the part's stripe
 after-stripe : {L : Type 0} (answer : Answer L) (part : PartState)
     → (part_after answer part).stripe ≡ part.stripe
@@ -110,7 +122,7 @@ lane-stays type lane = record {
   counted = refl;
   made = [];
   noted = refl;
-  log = notes-none (LegalMoves type) lane.part.stripe lane.pass;
+  log = notes-none (LegalNotes type) lane.part.stripe lane.pass;
 }
 
 -- and lists of steps join
@@ -123,9 +135,9 @@ lane-joined {L} type first mid last before after here there = record {
   made = here.made ++ there.made;
   noted = noted-append type before after here.made there.made first.part here.noted
       (subst (λ (part : PartState). AreNoted type part after there.made) here.counted there.noted);
-  log = notes-append (LegalMoves type) first.part.stripe here.made there.made first.pass mid.pass
-      last.pass here.log
-      (subst (λ (shard : ℕ). NotesAll (LegalMoves type) shard there.made mid.pass last.pass)
+  log = moves-append type first.part.stripe here.made there.made first.pass mid.pass last.pass
+      here.log
+      (subst (λ (shard : ℕ). NotesMoves type shard there.made mid.pass last.pass)
       (ap (λ (part : PartState). part.stripe) here.counted ∙ all-stripe before first.part)
       there.log);
 }

@@ -5,11 +5,10 @@ use Rattle.nm_book.specs.Log.{PassView}
 use Rattle.nm_gate.specs.declared.gated_stripe.GatedStripe.{GatedStripe}
 use Rattle.nm_gate.specs.Returning.{suspects}
 use Rattle.nm_history.specs.declared.transition.Move.TheVariants.{Does}
-use Rattle.nm_history.specs.declared.transition.Transition.{Transition}
-use Rattle.nm_history.specs.History.{LegalMoves}
+use Rattle.nm_history.specs.declared.transition.Noted.{Noted}
+use Rattle.nm_mirror.specs.Trail.{NotesMoves}
 use Rattle.nm_lanes.specs.Answers.{refused_with_nothing}
 use Rattle.nm_leg.specs.Leg.{LegType}
-use Rattle.nm_mirror.specs.Trail.{NotesAll}
 use Rattle.nm_rules.specs.Attach.{attach_cause}
 use Rattle.nm_rules.specs.State.{left}
 use Rattle.nm_rules.specs.declared.refusal.Refusal.{Refusal}
@@ -28,15 +27,15 @@ answer_of_fail (Err refusal) = refused_with_nothing refusal
 
 -- the pass notes just this step of the stripe that is held, with its answer
 abbrev pub NotesStep : {L : Type 0} → LegType L → Step L → Answer L
-    → (held : GatedStripe L × GatedStripe L) → (old new : PassView (Transition L)) → Type 0
+    → (held : GatedStripe L × GatedStripe L) → (old new : PassView (Noted L)) → Type 0
 NotesStep type step answer held old new =
-    NotesAll (LegalMoves type) held.0.stripe.place.stripe
+    NotesMoves type held.0.stripe.place.stripe
     (record { made = Does step answer; to = held.1 } ∷ []) old new
 
 -- if the stripe has the leg, the pass notes just that it is asked to take it out, and how it
 -- answers: what a log may say of it is what the stripe does; if not, nothing
 pub record NotesFail {L : Type 0} (type : LegType L) (leg : ℕ)
-    (held : GatedStripe L × GatedStripe L) (old new : PassView (Transition L)) : Type 0 where
+    (held : GatedStripe L × GatedStripe L) (old new : PassView (Noted L)) : Type 0 where
   pub there : leg < length held.0.stripe.legs
       → (answer : Answer L) × NotesStep type (Fail leg) answer held old new
   pub absent : length held.0.stripe.legs ≤ leg → new ≡ old
@@ -44,7 +43,7 @@ pub record NotesFail {L : Type 0} (type : LegType L) (leg : ℕ)
 -- if the leg may join, the pass notes just that it does, with the marks that the gate gives it; if
 -- not, nothing
 pub record NotesReturn {L : Type 0} (type : LegType L) (leg : ℕ)
-    (held : GatedStripe L × GatedStripe L) (old new : PassView (Transition L)) : Type 0 where
+    (held : GatedStripe L × GatedStripe L) (old new : PassView (Noted L)) : Type 0 where
   pub joins : attach_cause held.0.stripe leg ≡ None
       → NotesStep type (Return leg (suspects leg held.0.durable))
       (answer.Joining (left leg held.1.stripe)) held old new
@@ -52,7 +51,7 @@ pub record NotesReturn {L : Type 0} (type : LegType L) (leg : ℕ)
 
 -- if the leg may be replaced, the pass notes just that this one takes its place; if not, nothing
 pub record NotesReplace {L : Type 0} (type : LegType L) (leg : ℕ) (part : L)
-    (held : GatedStripe L × GatedStripe L) (old new : PassView (Transition L)) : Type 0 where
+    (held : GatedStripe L × GatedStripe L) (old new : PassView (Noted L)) : Type 0 where
   pub joins : attach_cause held.0.stripe leg ≡ None
       → NotesStep type (Replace leg part) (answer.Joining (left leg held.1.stripe)) held old new
   pub stays : IsSome (attach_cause held.0.stripe leg) → new ≡ old

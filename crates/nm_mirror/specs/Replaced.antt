@@ -2,7 +2,7 @@
 use Rattle.std.specs.Prelude.{◌≡◌, ℕ, ◌+◌, ◌<◌, List, length, slice_get, Some}
 use Rattle.nm_book.specs.Log.{PassView}
 use Rattle.nm_gate.specs.declared.gated_stripe.GatedStripe.{GatedStripe}
-use Rattle.nm_history.specs.declared.transition.Transition.{Transition}
+use Rattle.nm_history.specs.declared.transition.Noted.{Noted}
 use Rattle.nm_leg.specs.Leg.{LegType}
 use Rattle.nm_mirror.specs.Counted.{CountsEach}
 use Rattle.nm_mirror.specs.Counts.{replaced_so}
@@ -22,7 +22,7 @@ stays_out counts = record counts { out = counts.out + 1 }
 -- What is counted and noted of the stripe of this number: in a hold of it the new leg joined, or
 -- may not; or it does not fit, or no superblock can be saved that lets it join.
 pub data ReplacesIn {L : Type 0} (type : LegType L) (leg : ℕ) (part : L) (number : ℕ)
-    (old new : ReplaceCounts × PassView (Transition L)) : Type 0 where
+    (old new : ReplaceCounts × PassView (Noted L)) : Type 0 where
   Asked : (held : GatedStripe L × GatedStripe L) → held.0.stripe.place.stripe ≡ number
       → leg < length held.0.stripe.legs
       → new.0 ≡ replaced_so (attach_cause held.0.stripe leg) (left leg held.1.stripe) old.0
@@ -31,13 +31,13 @@ pub data ReplacesIn {L : Type 0} (type : LegType L) (leg : ℕ) (part : L) (numb
 
 -- so it is of the stripe of this number and the new leg of its place
 pub record ReplacesNext {L : Type 0} (type : LegType L) (leg : ℕ) (parts : List L) (number : ℕ)
-    (old new : ReplaceCounts × PassView (Transition L)) : Type 0 where
+    (old new : ReplaceCounts × PassView (Noted L)) : Type 0 where
   pub part : L
   pub there : slice_get parts number ≡ Some part
   pub replaces : ReplacesIn type leg part number old new
 
 -- so it is of each of so many stripes, in order
 abbrev pub ReplacesEach : {L : Type 0} → LegType L → ℕ → List L → (stripes : ℕ)
-    → (old : PassView (Transition L)) → ReplaceCounts × PassView (Transition L) → Type 0
+    → (old : PassView (Noted L)) → ReplaceCounts × PassView (Noted L) → Type 0
 ReplacesEach type leg parts stripes old new =
     CountsEach (ReplacesNext type leg parts) (no_replaces, old) stripes new

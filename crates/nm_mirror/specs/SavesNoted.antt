@@ -3,21 +3,20 @@ use Rattle.std.specs.Prelude.{◌≡◌, ℕ, is_some}
 use Rattle.nm_book.specs.Log.{PassView}
 use Rattle.nm_gate.specs.declared.gated_stripe.GatedStripe.{GatedStripe}
 use Rattle.nm_history.specs.declared.transition.Move.TheVariants.{Saves}
-use Rattle.nm_history.specs.declared.transition.Transition.{Transition}
-use Rattle.nm_history.specs.History.{LegalMoves}
+use Rattle.nm_history.specs.declared.transition.Noted.{Noted}
 use Rattle.nm_leg.specs.Leg.{LegType}
 use Rattle.nm_mirror.specs.Counted.{CountsEach}
-use Rattle.nm_mirror.specs.Trail.{NotesAll, noted_if}
+use Rattle.nm_mirror.specs.Trail.{NotesMoves, noted_if}
 
 -- the pass notes just this one, where there is a superblock
 abbrev pub NotesSave : {L : Type 0} → LegType L → GatedStripe L
-    → (old new : PassView (Transition L)) → Type 0
-NotesSave type to old new = NotesAll (LegalMoves type) to.stripe.place.stripe
+    → (old new : PassView (Noted L)) → Type 0
+NotesSave type to old new = NotesMoves type to.stripe.place.stripe
     (noted_if (is_some to.durable) (record { made = Saves; to = to })) old new
 
 -- in a hold of the stripe of this number its gate changed so, and the pass notes it
 pub record SavesIn {L : Type 0} (type : LegType L) (so : (old new : GatedStripe L) → Type 0)
-    (number : ℕ) (old new : PassView (Transition L)) : Type 0 where
+    (number : ℕ) (old new : PassView (Noted L)) : Type 0 where
   pub held : GatedStripe L × GatedStripe L
   pub number_is : held.0.stripe.place.stripe ≡ number
   pub so_is : so held.0 held.1
@@ -25,5 +24,5 @@ pub record SavesIn {L : Type 0} (type : LegType L) (so : (old new : GatedStripe 
 
 -- so it is of each of so many stripes, in order
 abbrev pub SavesEach : {L : Type 0} → LegType L → ((old new : GatedStripe L) → Type 0)
-    → (stripes : ℕ) → (old new : PassView (Transition L)) → Type 0
+    → (stripes : ℕ) → (old new : PassView (Noted L)) → Type 0
 SavesEach type so stripes old new = CountsEach (SavesIn type so) old stripes new

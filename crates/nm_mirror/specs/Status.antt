@@ -1,10 +1,10 @@
 -- What is told of a stripe.
 use Rattle.std.specs.Prelude.{◌≡◌, ℕ, List, length, min, slice_get, Some, true, false}
 use mathlib.Core.List.{IsPrefix}
-use Rattle.nm_book.specs.declared.rule.Entry.{Entry as Noted}
+use Rattle.nm_book.specs.declared.rule.Entry.{Entry as LogEntry}
 use Rattle.nm_book.specs.Log.{PassView}
 use Rattle.nm_gate.specs.declared.gated_stripe.GatedStripe.{GatedStripe}
-use Rattle.nm_history.specs.declared.transition.Transition.{Transition}
+use Rattle.nm_history.specs.declared.transition.Noted.{Noted}
 use Rattle.nm_history.specs.History.{LeadsTo}
 use Rattle.nm_leg.specs.Leg.{LegType}
 use Rattle.nm_mirror.specs.JointHistory.{history_of}
@@ -45,34 +45,34 @@ pub record TellsOf (L : Type 0) (number : ℕ) (told : StripeStatus) : Type 0 wh
 -- A pass looked at the log at some point behind what it had seen before, and within what it has
 -- seen now: there the entries of the stripe of this number led to this stripe.
 pub record SeesStripe {L : Type 0} (type : LegType L) (number : ℕ)
-    (old new : PassView (Transition L)) (now : GatedStripe L) : Type 0 where
-  pub log : List (Noted (Transition L))
+    (old new : PassView (Noted L)) (now : GatedStripe L) : Type 0 where
+  pub log : List (LogEntry (Noted L))
   pub behind : IsPrefix old.seen log
   pub within : IsPrefix log new.seen
   pub leads : LeadsTo type number (history_of number log) now
 
 -- the pass only looked: no entry is its own that was not
-pub record OnlySees {L : Type 0} (old new : PassView (Transition L)) : Type 0 where
+pub record OnlySees {L : Type 0} (old new : PassView (Noted L)) : Type 0 where
   pub who : new.who ≡ old.who
   pub mine : new.mine ≡ old.mine
   pub goes_on : IsPrefix old.seen new.seen
 
 -- this is told of the stripe to which the log led
-pub record TellsAt {L : Type 0} (type : LegType L) (old new : PassView (Transition L)) (number : ℕ)
+pub record TellsAt {L : Type 0} (type : LegType L) (old new : PassView (Noted L)) (number : ℕ)
     (told : StripeStatus) : Type 0 where
   pub now : GatedStripe L
   pub sees : SeesStripe type number old new now
   pub status : IsStatus now.stripe told
 
 -- what is told in order is of the stripes in order
-abbrev pub EachTellsAt : {L : Type 0} → LegType L → (old new : PassView (Transition L))
+abbrev pub EachTellsAt : {L : Type 0} → LegType L → (old new : PassView (Noted L))
     → List StripeStatus → Type 0
 EachTellsAt type old new told =
     (number : ℕ) (one : StripeStatus) → slice_get told number ≡ Some one
     → TellsAt type old new number one
 
 -- the stripe to which the log led keeps these entries
-pub record KeepsAt {L : Type 0} (type : LegType L) (old new : PassView (Transition L)) (number : ℕ)
+pub record KeepsAt {L : Type 0} (type : LegType L) (old new : PassView (Noted L)) (number : ℕ)
     (entries : List Entry) : Type 0 where
   pub now : GatedStripe L
   pub sees : SeesStripe type number old new now

@@ -5,21 +5,25 @@ use Rattle.nm_book.specs.declared.rule.Entry.{Entry}
 use Rattle.nm_book.specs.Log.{IsLegal, KeeperView, PassView, calls_by, entry, whats}
 use Rattle.nm_gate.specs.declared.gated_stripe.GatedStripe.{GatedStripe}
 use Rattle.nm_history.specs.declared.transition.Move.{Move}
+use Rattle.nm_history.specs.declared.transition.Noted.{Noted}
+use Rattle.nm_history.specs.declared.transition.Noted.TheVariants.{Moved}
 use Rattle.nm_history.specs.declared.transition.Transition.{Transition}
-use Rattle.nm_history.specs.History.{LegalMoves, last_of}
+use Rattle.nm_history.specs.History.{last_of}
 use Rattle.nm_history.specs.Lost.{none_lost}
 use Rattle.nm_history.specs.Moves.{MoveOf}
+use Rattle.nm_history.specs.Notes.{LegalNotes, transitions}
 use Rattle.nm_leg.specs.Leg.{LegType}
 
 -- where the transitions of a keeper's shard lead, if there is one that has some
-abbrev pub led_to : {L : Type 0} → Option (KeeperView (Transition L)) → Option (GatedStripe L)
+abbrev pub led_to : {L : Type 0} → Option (KeeperView (Noted L)) → Option (GatedStripe L)
 led_to None = None
-led_to (Some keeper) = last_of (whats keeper.all)
+led_to (Some keeper) = last_of (transitions keeper.all)
 
--- there is a keeper, and the transitions of its shard are the history of the stripe of its number
-abbrev pub HasHistory : {L : Type 0} → LegType L → Option (KeeperView (Transition L)) → Type 0
+-- there is a keeper, and what is noted in its shard is legal: the transitions there are the history
+-- of the stripe of its number
+abbrev pub HasHistory : {L : Type 0} → LegType L → Option (KeeperView (Noted L)) → Type 0
 HasHistory type None = ⊥
-HasHistory type (Some keeper) = LegalMoves type keeper.shard (whats keeper.all)
+HasHistory type (Some keeper) = LegalNotes type keeper.shard (whats keeper.all)
 
 -- the move is made, or else nothing changes
 abbrev pub MadeIf : {L : Type 0} → LegType L → Bool → Move L → (old new : GatedStripe L) → Type 0
@@ -45,3 +49,9 @@ pub record NotesAll {E : Type 0} (legal : ℕ → List E → Type 0) (shard : �
   pub own : calls_by old.who more ≡ entries old.who shard list
   pub mine : new.mine ≡ old.mine ++ entries old.who shard list
   pub is_legal : IsLegal legal old.seen → IsLegal legal new.seen
+
+-- a pass notes these transitions so
+abbrev pub NotesMoves : {L : Type 0} → LegType L → (shard : ℕ) → List (Transition L)
+    → (old new : PassView (Noted L)) → Type 0
+NotesMoves type shard list old new =
+    NotesAll (LegalNotes type) shard (map (λ t. Moved t) list) old new

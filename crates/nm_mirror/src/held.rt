@@ -43,8 +43,8 @@ fn names_at_most(durable: &DurableState, legs: u8, master: u8) -> bool
 impl<L: LegPart, J: Naming> Held<L, J> {
     ghost use Rattle.nm_leg.specs.Leg.{leg_type};
     ghost use Rattle.nm_leg.specs.LegCalls.{EachHas};
-    ghost use Rattle.nm_book.specs.Log.{whats};
     ghost use Rattle.nm_history.specs.History.{LeadsTo};
+    ghost use Rattle.nm_history.specs.Notes.{transitions};
     ghost use Rattle.nm_mirror.specs.Asks.{LetsPass};
     ghost use Rattle.nm_mirror.specs.Ending.{end_of_held};
     ghost use Rattle.nm_mirror.specs.Reopening.{GoesOn, NamesAtMost, Reopens};
@@ -97,7 +97,8 @@ impl<L: LegPart, J: Naming> Held<L, J> {
 
     /// The keeper of the stripe's shard of the log, whose transitions lead to the stripe.
     pub(crate) fn into_keeper(self) -> StripeKeeper<L, J>
-        ensures { LeadsTo (leg_type L.model L.honest) result.shard (whats result.all) self.gated }
+        ensures { LeadsTo (leg_type L.model L.honest) result.shard (transitions result.all)
+            self.gated }
     {
         let Held { trail, .. } = self;
         trail.into_keeper()

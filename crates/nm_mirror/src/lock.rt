@@ -73,13 +73,13 @@ pub(crate) struct Unlocked<L: LegPart, J: Naming> {
 }
 
 impl<L: LegPart, J: Naming> Unlocked<L, J> {
-    ghost use Rattle.nm_book.specs.Log.{whats};
     ghost use Rattle.nm_history.specs.History.{LeadsTo};
+    ghost use Rattle.nm_history.specs.Notes.{transitions};
     ghost use Rattle.nm_leg.specs.Leg.{leg_type};
 
     /// The keeper of its stripe's shard of the log, whose transitions lead to the stripe.
     pub(crate) fn into_keeper(self) -> StripeKeeper<L, J>
-        ensures { LeadsTo (leg_type L.model L.honest) result.shard (whats result.all)
+        ensures { LeadsTo (leg_type L.model L.honest) result.shard (transitions result.all)
             self.held.gated }
     {
         self.held.into_keeper()

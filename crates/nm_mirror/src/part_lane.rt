@@ -9,7 +9,7 @@ ghost use Rattle.nm_leg.specs.Leg.{leg_type};
 ghost use Rattle.nm_part.specs.Parts.{part_of};
 ghost use Rattle.nm_mirror.specs.Counting.{Follows};
 ghost use Rattle.nm_book.specs.Log.{IsLegal};
-ghost use Rattle.nm_history.specs.History.{LegalMoves};
+ghost use Rattle.nm_history.specs.Notes.{LegalNotes};
 
 use crate::ask::Ask;
 use crate::held::Held;
@@ -80,7 +80,7 @@ impl<L: LegPart, J: Naming> PartLane<L, J> {
     pub(crate) fn of(held: &Held<L, J>) -> Self
         ensures part { result.part ≡ part_of held.now.gated.stripe }
         ensures mine { result.pass.mine ≡ [] }
-        ensures legal { IsLegal (LegalMoves (leg_type L.model L.honest)) result.pass.seen }
+        ensures legal { IsLegal (LegalNotes (leg_type L.model L.honest)) result.pass.seen }
     {
         PartLane {
             part: Part::of(&held.gated.stripe),

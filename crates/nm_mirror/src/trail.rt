@@ -1,41 +1,42 @@
 //! What is noted of a stripe in the log of the mirror.
 ghost use Rattle.std.specs.Prelude.{◌≡◌, [], ◌∷◌, IfSome, Some};
-ghost use Rattle.nm_book.specs.Log.{IsLegal, SeesOn, shard_of, whats};
+ghost use Rattle.nm_book.specs.Log.{IsLegal, SeesOn, shard_of};
 ghost use Rattle.nm_gate.specs.Changes.{Resaved};
 ghost use Rattle.nm_gate.specs.declared.gated_stripe.GatedStripe.{GatedStripe};
-ghost use Rattle.nm_history.specs.History.{LeadsTo, LegalMoves};
+ghost use Rattle.nm_history.specs.History.{LeadsTo};
 ghost use Rattle.nm_history.specs.Lost.{none_lost};
 ghost use Rattle.nm_history.specs.Moves.{MoveOf};
+ghost use Rattle.nm_history.specs.Notes.{LegalNotes, transitions};
 ghost use Rattle.nm_leg.specs.Leg.{leg_type};
 ghost use Rattle.nm_mirror.specs.JointHistory.{history_of};
 ghost use Rattle.nm_mirror.specs.SavesNoted.{NotesSave};
-ghost use Rattle.nm_mirror.specs.Trail.{MadeIf, NotesAll, noted_if};
+ghost use Rattle.nm_mirror.specs.Trail.{MadeIf, NotesMoves, noted_if};
 
 use nm_book::{Book, Closer, Keeper, Maker, Naming, Notes, Opened};
 use nm_gate::GatedStripe;
-use nm_history::{Legal, Transition};
+use nm_history::{Legal, Noted};
 use nm_leg::LegPart;
 use std::alloc::{AllocError, Global};
 use std::marker::{Brand, Model, PhantomData};
 use std::sync::Arc;
 
 /// The log of a mirror.
-pub type Log<L, J> = Book<Transition<L>, Legal<L>, J>;
+pub type Log<L, J> = Book<Noted<L>, Legal<L>, J>;
 
 /// A pass through it.
-pub type LogPass<L, J> = nm_book::Pass<Transition<L>, J>;
+pub type LogPass<L, J> = nm_book::Pass<Noted<L>, J>;
 
 /// Who collects passes and stripes at the end.
-pub type LogCloser<L, J> = Closer<Transition<L>, J>;
+pub type LogCloser<L, J> = Closer<Noted<L>, J>;
 
 /// The right to note what is done to one stripe.
-pub type StripeKeeper<L, J> = Keeper<Transition<L>, J>;
+pub type StripeKeeper<L, J> = Keeper<Noted<L>, J>;
 
 /// Who makes the keepers of the stripes' shards, by rising number.
-pub type StripeKeepers<L, J> = Maker<Transition<L>, J>;
+pub type StripeKeepers<L, J> = Maker<Noted<L>, J>;
 
 /// A log that is opened, and has no name yet.
-pub type OpenedLog<L> = Opened<Transition<L>, Legal<L>>;
+pub type OpenedLog<L> = Opened<Noted<L>, Legal<L>>;
 
 /// Opens a log.
 pub fn open_log<L: LegPart>(alloc: Global) -> Result<OpenedLog<L>, AllocError> {
@@ -91,8 +92,10 @@ struct Told<N> {
     of: PhantomData<N>,
 }
 
-impl<L: LegPart, N: Tells<L>> Notes<GatedStripe<L>, Transition<L>> for Told<N> {
-    ghost what = { λ gated. record { made = N.made; to = gated } };
+impl<L: LegPart, N: Tells<L>> Notes<GatedStripe<L>, Noted<L>> for Told<N> {
+    ghost use Rattle.nm_history.specs.declared.transition.Noted.TheVariants.{Moved};
+
+    ghost what = { λ gated. Moved (record { made = N.made; to = gated }) };
 }
 
 /// The keeper of a stripe's shard of the log, and a pass for what is done to the stripe by no
@@ -168,7 +171,7 @@ impl<L: LegPart, J: Naming> Trail<L, J> {
     /// The keeper, whose transitions lead where the trail does.
     pub(crate) fn into_keeper(self) -> StripeKeeper<L, J>
         ensures { IfSome self
-            (LeadsTo (leg_type L.model L.honest) result.shard (whats result.all)) }
+            (LeadsTo (leg_type L.model L.honest) result.shard (transitions result.all)) }
     {
         let Trail { keeper, .. } = self;
         let Some(keeper) = keeper else { unreachable!() };
@@ -178,14 +181,14 @@ impl<L: LegPart, J: Naming> Trail<L, J> {
     /// A new pass through the log.
     pub(crate) fn pass(&self) -> LogPass<L, J>
         ensures mine { result.mine ≡ [] }
-        ensures legal { IsLegal (LegalMoves (leg_type L.model L.honest)) result.seen }
+        ensures legal { IsLegal (LegalNotes (leg_type L.model L.honest)) result.seen }
     {
         self.book.pass()
     }
 
     /// The pass sees the log as it is, where the stripe's entries lead to what the trail does.
     pub(crate) fn look(&mut self, pass: &mut LogPass<L, J>)
-        ensures sees { SeesOn (LegalMoves (leg_type L.model L.honest)) pass.old pass.new }
+        ensures sees { SeesOn (LegalNotes (leg_type L.model L.honest)) pass.old pass.new }
         ensures leads { IfSome self.old (λ now. LeadsTo (leg_type L.model L.honest)
             now.stripe.place.stripe (history_of now.stripe.place.stripe pass.new.seen) now) }
         ensures stays { self.new ≡ self.old }
@@ -209,7 +212,7 @@ impl<L: LegPart, J: Naming> Trail<L, J> {
         requires { (from : GatedStripe L) × (self.old ≡ Some from)
             × MadeIf (leg_type L.model L.honest) is_made N.made from to.now }
         ensures to { self.new ≡ Some to.now }
-        ensures notes { NotesAll (LegalMoves (leg_type L.model L.honest))
+        ensures notes { NotesMoves (leg_type L.model L.honest)
             to.now.stripe.place.stripe
             (noted_if is_made (record { made = N.made; to = to.now })) pass.old pass.new }
     {
@@ -228,7 +231,7 @@ impl<L: LegPart, J: Naming> Trail<L, J> {
         requires { (from : GatedStripe L) × (self.old ≡ Some from)
             × MoveOf (leg_type L.model L.honest) none_lost N.made from to.now }
         ensures to { self.new ≡ Some to.now }
-        ensures notes { NotesAll (LegalMoves (leg_type L.model L.honest))
+        ensures notes { NotesMoves (leg_type L.model L.honest)
             to.now.stripe.place.stripe (record { made = N.made; to = to.now } ∷ [])
             pass.old pass.new }
     {
@@ -241,7 +244,7 @@ impl<L: LegPart, J: Naming> Trail<L, J> {
         requires { (from : GatedStripe L) × (self.old ≡ Some from)
             × MoveOf (leg_type L.model L.honest) none_lost N.made from to.now }
         ensures to { self.new ≡ Some to.now }
-        ensures notes { NotesAll (LegalMoves (leg_type L.model L.honest))
+        ensures notes { NotesMoves (leg_type L.model L.honest)
             to.now.stripe.place.stripe (record { made = N.made; to = to.now } ∷ [])
             pass.old pass.new }
     {

@@ -2,7 +2,7 @@
 use Rattle.std.proofs.Common.{◌≡◌, ◌++◌, ◌∷◌, [], List, map, refl, sym, subst, ◌∙◌, rules}
 use Rattle.std.proofs.lemmas.List.{append-nil}
 use Rattle.nm_book.specs.declared.rule.Shard.{Shard}
-use Rattle.nm_history.specs.declared.transition.Transition.{Transition}
+use Rattle.nm_history.specs.declared.transition.Noted.{Noted}
 use Rattle.nm_leg.specs.Leg.{leg_type}
 use Rattle.nm_mirror.specs.Ending.{ReplayAll, end_behind}
 use Rattle.nm_mirror.specs.declared.lock.Unlocked.{Unlocked}
@@ -14,7 +14,7 @@ loop-one-init g c = (
   [],
   sym (append-nil c.args.unlocked.items),
   refl,
-  subst (λ (shards : List (Shard (Transition g.row.L.Denot))). ReplayAll (leg_type g.L.LegPart.model g.L.LegPart.honest) [] shards) (sym c.requires) tt,
+  subst (λ (shards : List (Shard (Noted g.row.L.Denot))). ReplayAll (leg_type g.L.LegPart.model g.L.LegPart.honest) [] shards) (sym c.requires) tt,
 )
 
 pub loop-one-preserved : goal.loop-one-preserved

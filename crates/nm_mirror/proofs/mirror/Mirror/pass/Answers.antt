@@ -2,11 +2,11 @@
 use Rattle.std.proofs.Common.{◌≡◌, [], length, slice_get, Some, refl, sym, ap, ◌∙◌, rules}
 use Rattle.std.proofs.lemmas.Option.{slice_get_read}
 use Rattle.nm_book.specs.Log.{IsLegal}
-use Rattle.nm_history.specs.History.{LegalMoves}
 use Rattle.nm_leg.specs.Leg.{leg_type}
 use Rattle.nm_mirror.proofs.NumberLemmas.{number-at, one-in-order, one-more-all}
 use Rattle.nm_mirror.specs.declared.held.Held.{Held}
 use Rattle.nm_mirror.proofs.mirror.Mirror.pass.Goals as goal
+use Rattle.nm_history.specs.Notes.{LegalNotes}
 
 pub loop-lock-preserved : goal.loop-lock-preserved
 loop-lock-preserved g c =
@@ -18,6 +18,6 @@ loop-lock-preserved g c =
       search rules,
       search rules,
       one-more-all (λ lane. lane.part.count ≡ 0) c.loop-lock.pass.parts.items c.push_reserved.new.self.items c.of.result c.loop-lock.invariant.2 (ap (λ part. part.count) c.of.ensures.part) c.push_reserved.ensures.items,
-      one-more-all (λ lane. (lane.pass.mine ≡ []) × IsLegal (LegalMoves (leg_type g.L.LegPart.model g.L.LegPart.honest)) lane.pass.seen) c.loop-lock.pass.parts.items c.push_reserved.new.self.items c.of.result c.loop-lock.invariant.3 (c.of.ensures.mine, c.of.ensures.legal) c.push_reserved.ensures.items,
+      one-more-all (λ lane. (lane.pass.mine ≡ []) × IsLegal (LegalNotes (leg_type g.L.LegPart.model g.L.LegPart.honest)) lane.pass.seen) c.loop-lock.pass.parts.items c.push_reserved.new.self.items c.of.result c.loop-lock.invariant.3 (c.of.ensures.mine, c.of.ensures.legal) c.push_reserved.ensures.items,
       one-in-order (λ lane. lane.part.stripe) c.loop-lock.pass.parts.items c.push_reserved.new.self.items c.of.result c.loop-lock.invariant.4 (own ∙ number ∙ sym long) c.push_reserved.ensures.items,
     )

@@ -3,7 +3,7 @@ use Rattle.std.specs.Prelude.{Option, Some, IfSome}
 use Rattle.std.proofs.Common.{◌≡◌, sym, ap, subst, ◌∙◌}
 use Rattle.nm_book.specs.Log.{KeeperView}
 use Rattle.nm_gate.specs.declared.gated_stripe.GatedStripe.{GatedStripe}
-use Rattle.nm_history.specs.declared.transition.Transition.{Transition}
+use Rattle.nm_history.specs.declared.transition.Noted.{Noted}
 use Rattle.nm_history.specs.History.{LeadsTo}
 use Rattle.nm_leg.specs.Leg.{leg_type}
 use Rattle.nm_mirror.specs.JointHistory.{history_of}
@@ -14,7 +14,7 @@ use Rattle.nm_mirror.proofs.trail.Trail.look.Goals as goal
 pub invariant_of-self : goal.invariant_of-self
 invariant_of-self g c =
     let type = leg_type g.L.LegPart.model g.L.LegPart.honest in
-    subst (λ (o : Option (KeeperView (Transition _))). HasHistory type o) (sym c.take.ensures.value ∙ c.in-Some.is ∙ ap (λ (k : KeeperView (Transition _)). Some k) (sym c.look.ensures.same)) c.self.invariant
+    subst (λ (o : Option (KeeperView (Noted _))). HasHistory type o) (sym c.take.ensures.value ∙ c.in-Some.is ∙ ap (λ (k : KeeperView (Noted _)). Some k) (sym c.look.ensures.same)) c.self.invariant
 
 pub returns-clause-leads : goal.returns-clause-leads
 returns-clause-leads g c =
@@ -24,4 +24,4 @@ returns-clause-leads g c =
 
 pub returns-clause-stays : goal.returns-clause-stays
 returns-clause-stays g c =
-    sym (ap (λ (o : Option (KeeperView (Transition _))). led_to o) (sym c.take.ensures.value ∙ c.in-Some.is ∙ ap (λ (k : KeeperView (Transition _)). Some k) (sym c.look.ensures.same))) ∙ c.self.view_is
+    sym (ap (λ (o : Option (KeeperView (Noted _))). led_to o) (sym c.take.ensures.value ∙ c.in-Some.is ∙ ap (λ (k : KeeperView (Noted _)). Some k) (sym c.look.ensures.same))) ∙ c.self.view_is
