@@ -3,6 +3,7 @@ mod ClaimingLemmas
 mod CountedLemmas
 mod EndingLemmas
 mod GlanceLemmas
+mod HearingLemmas
 mod HeldLemmas
 mod HeldSame
 mod JointLemmas
@@ -23,6 +24,7 @@ mod ReopenLemmas
 mod ReplaceLemmas
 mod RoundLemmas
 mod SaveLemmas
+mod SessionLemmas
 mod StatusLemmas
 mod StepsTold
 mod TakingLemmas

@@ -9,6 +9,7 @@ pub mod Counting
 pub mod Counts
 pub mod Ending
 pub mod Glances
+pub mod Hearing
 pub mod Holding
 pub mod Joining
 pub mod JointHistory
@@ -32,6 +33,7 @@ pub mod SaveDesk
 pub mod Saves
 pub mod SavesNoted
 pub mod Saving
+pub mod Sessions
 pub mod Settling
 pub mod Status
 pub mod Stripes

@@ -210,6 +210,7 @@ impl<L: LegPart, G: Gate + Drop, J: Naming> Mirror<L, G, J> {
             shutting,
             desk,
             book,
+            keepers,
             paused,
         } = self;
         let made = made.into_inner();
@@ -224,6 +225,7 @@ impl<L: LegPart, G: Gate + Drop, J: Naming> Mirror<L, G, J> {
                     shutting,
                     desk,
                     book,
+                    keepers,
                     paused,
                 };
                 Err((refused, mirror, passes))

@@ -5,7 +5,7 @@ ghost use Rattle.nm_gate.specs.Durable.{is_named};
 
 use crate::opening::only_bit;
 use crate::stripe_end::{Past, StripeEnd};
-use crate::trail::{Log, LogPass, Opening, StripeKeeper, Trail};
+use crate::trail::{Log, LogPass, Opening, ShardKeeper, Trail};
 use crate::unclaimed::Unclaimed;
 use nm_book::Naming;
 use nm_gate::{DurableState, GatedStripe};
@@ -59,7 +59,7 @@ impl<L: LegPart, J: Naming> Held<L, J> {
     pub(crate) fn new(
         gated: GatedStripe<L>,
         book: Arc<Log<L, J>>,
-        keeper: StripeKeeper<L, J>,
+        keeper: ShardKeeper<L, J>,
     ) -> Self
         requires none { keeper.all ≡ [] }
         requires own { keeper.shard ≡ gated.stripe.place.stripe }
@@ -96,7 +96,7 @@ impl<L: LegPart, J: Naming> Held<L, J> {
     }
 
     /// The keeper of the stripe's shard of the log, whose transitions lead to the stripe.
-    pub(crate) fn into_keeper(self) -> StripeKeeper<L, J>
+    pub(crate) fn into_keeper(self) -> ShardKeeper<L, J>
         ensures { LeadsTo (leg_type L.model L.honest) result.shard (transitions result.all)
             self.gated }
     {

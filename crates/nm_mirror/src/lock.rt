@@ -7,7 +7,7 @@ use crate::door::Door;
 use crate::held::Held;
 use crate::save_desk::SaveDesk;
 use crate::stripe_end::StripeEnd;
-use crate::trail::{Log, StripeKeeper};
+use crate::trail::{Log, ShardKeeper};
 use nm_book::Naming;
 use nm_gate::{GateRefusal, GatedStripe};
 use nm_leg::LegPart;
@@ -78,7 +78,7 @@ impl<L: LegPart, J: Naming> Unlocked<L, J> {
     ghost use Rattle.nm_leg.specs.Leg.{leg_type};
 
     /// The keeper of its stripe's shard of the log, whose transitions lead to the stripe.
-    pub(crate) fn into_keeper(self) -> StripeKeeper<L, J>
+    pub(crate) fn into_keeper(self) -> ShardKeeper<L, J>
         ensures { LeadsTo (leg_type L.model L.honest) result.shard (transitions result.all)
             self.held.gated }
     {
@@ -127,7 +127,7 @@ impl<L: LegPart, J: Naming> Lock<L, J> {
     pub(crate) fn new(
         gated: GatedStripe<L>,
         beside: Beside<L, J>,
-        keeper: StripeKeeper<L, J>,
+        keeper: ShardKeeper<L, J>,
     ) -> Self
         requires none { keeper.all ≡ [] }
         requires own { keeper.shard ≡ gated.stripe.place.stripe }

@@ -8,7 +8,7 @@ ghost use Rattle.nm_mirror.specs.Stripes.{AreStripesOf};
 use crate::held::Held;
 use crate::lock::{Beside, Lock};
 use crate::save_desk::SaveDesk;
-use crate::trail::{EmptyLog, Log, LogPass, StripeKeepers};
+use crate::trail::{EmptyLog, Log, LogPass, ShardKeepers};
 use nm_book::Naming;
 use nm_gate::GatedStripe;
 use nm_geometry::Shape;
@@ -21,8 +21,9 @@ use std::sync::{Arc, Mutex, MutexGuard, Wait};
 
 /// A mirror: its stripes, by rising number, each behind a lock of its own that has its number; the
 /// gate that its calls pass between their steps; how many passes it made; whose turn it is to shut
-/// out writes; where saves are asked for, if it has superblocks; its log; and which legs are paused,
-/// a bit each. The lock of that count is taken by `pass` alone.
+/// out writes; where saves are asked for, if it has superblocks; its log, and who makes the keepers
+/// of its sessions' shards there; and which legs are paused, a bit each. The lock of that count is
+/// taken by `pass` alone, that of the keepers' maker by `session`.
 #[derive(Drop)]
 pub struct Mirror<L: LegPart, G: Gate + Drop, J: Naming> {
     pub(crate) shape: Shape,
@@ -32,6 +33,7 @@ pub struct Mirror<L: LegPart, G: Gate + Drop, J: Naming> {
     pub(crate) shutting: Mutex<()>,
     pub(crate) desk: Option<Arc<SaveDesk>>,
     pub(crate) book: Arc<Log<L, J>>,
+    pub(crate) keepers: Mutex<ShardKeepers<L, J>>,
     pub(crate) paused: AtomicU32,
     ghost one_each: { vec_len locks ≡ shape.stripes },
     ghost in_order: { AreInOrder (map (λ lock. lock.number) locks.items) },
@@ -84,9 +86,9 @@ fn lock_each<L: LegPart, J: Naming>(
     stripes: Vec<GatedStripe<L>>,
     desk: &Option<Arc<SaveDesk>>,
     book: &Arc<Log<L, J>>,
-    mut keepers: StripeKeepers<L, J>,
+    keepers: &mut ShardKeepers<L, J>,
 ) -> Result<Vec<Lock<L, J>>, Vec<GatedStripe<L>>>
-    requires first { shard_of keepers.seat.me.0.role ≡ 0 }
+    requires first { shard_of keepers.old.seat.me.0.role ≡ 0 }
     requires in_order { AreInOrder
         (map (λ gated. gated.stripe.place.stripe) stripes.items) }
     ensures each { IfOk result (λ locks. length locks.items ≡ length stripes.items) }
@@ -105,7 +107,7 @@ fn lock_each<L: LegPart, J: Naming>(
     rest.reverse();
     while let Some(gated) = rest.pop() {
         let share = shares.pop().unwrap();
-        let keeper = book.keeper(&mut keepers);
+        let keeper = book.keeper(keepers);
         locks.push_reserved(Lock::new(gated, share, keeper));
     }
     Ok(locks)
@@ -135,11 +137,11 @@ impl<L: LegPart, G: Gate + Drop, J: Naming> Mirror<L, G, J> {
         let Ok(desk) = desk_for(alloc, &stripes) else {
             return Err((Memory, stripes, gate));
         };
-        let EmptyLog { book, keepers } = log;
+        let EmptyLog { book, mut keepers } = log;
         let Ok(book) = Arc::new(alloc, book) else {
             return Err((Memory, stripes, gate));
         };
-        let locks = match lock_each(alloc, stripes, &desk, &book, keepers) {
+        let locks = match lock_each(alloc, stripes, &desk, &book, &mut keepers) {
             Ok(locks) => locks,
             Err(stripes) => return Err((Memory, stripes, gate)),
         };
@@ -151,6 +153,7 @@ impl<L: LegPart, G: Gate + Drop, J: Naming> Mirror<L, G, J> {
             shutting: Mutex::new(()),
             desk,
             book,
+            keepers: Mutex::new(keepers),
             paused: AtomicU32::new(0),
         })
     }

@@ -7,7 +7,9 @@ ghost use Rattle.nm_lanes.specs.Answers.{answer_of_push, answer_of_read, answer_
 ghost use Rattle.nm_lanes.specs.Done.{done_as};
 ghost use Rattle.nm_leg.specs.Leg.{leg_type};
 ghost use Rattle.nm_part.specs.Parts.{part_of};
+ghost use mathlib.Core.List.{IsPrefix};
 ghost use Rattle.nm_mirror.specs.Counting.{Follows};
+ghost use Rattle.nm_mirror.specs.Hearing.{LaneHears};
 ghost use Rattle.nm_book.specs.Log.{IsLegal};
 ghost use Rattle.nm_history.specs.Notes.{LegalNotes};
 
@@ -15,7 +17,7 @@ use crate::ask::Ask;
 use crate::held::Held;
 use crate::lock::Lock;
 use crate::sight::Sight;
-use crate::trail::LogPass;
+use crate::trail::{Log, LogPass};
 use nm_book::Naming;
 use nm_fanout::Data;
 use nm_lanes::Lane;
@@ -65,6 +67,25 @@ impl<L: LegPart, J: Naming> PartLane<L, J> {
     {
         let PartLane { pass, .. } = self;
         pass
+    }
+
+    /// Takes in what this pass has seen.
+    pub(crate) fn hear(&mut self, book: &Log<L, J>, from: &mut LogPass<L, J>)
+        ensures hears { LaneHears (leg_type L.model L.honest) from.old.seen self.old self.new }
+        ensures same { from.new ≡ from.old }
+    {
+        let told = book.tell(from);
+        book.hear(&mut self.pass, told);
+    }
+
+    /// Has this pass take in what its own has seen.
+    pub(crate) fn tell(&mut self, book: &Log<L, J>, to: &mut LogPass<L, J>)
+        ensures told { IsPrefix self.old.pass.seen to.new.seen }
+        ensures goes_on { IsPrefix to.old.seen to.new.seen }
+        ensures same { self.new ≡ self.old }
+    {
+        let told = book.tell(&mut self.pass);
+        book.hear(to, told);
     }
 
     /// From now on a write begins only where none began since this look, or always.

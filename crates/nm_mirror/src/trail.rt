@@ -26,14 +26,17 @@ pub type Log<L, J> = Book<Noted<L>, Legal<L>, J>;
 /// A pass through it.
 pub type LogPass<L, J> = nm_book::Pass<Noted<L>, J>;
 
+/// A beginning of it that somebody has seen, to be told to another.
+pub type LogTold<L, J> = nm_book::Told<Noted<L>, J>;
+
 /// Who collects passes and stripes at the end.
 pub type LogCloser<L, J> = Closer<Noted<L>, J>;
 
-/// The right to note what is done to one stripe.
-pub type StripeKeeper<L, J> = Keeper<Noted<L>, J>;
+/// The right to note what is done to one stripe, or which requests of one session come.
+pub type ShardKeeper<L, J> = Keeper<Noted<L>, J>;
 
-/// Who makes the keepers of the stripes' shards, by rising number.
-pub type StripeKeepers<L, J> = Maker<Noted<L>, J>;
+/// Who makes the keepers of the shards, by rising number: first those of the stripes.
+pub type ShardKeepers<L, J> = Maker<Noted<L>, J>;
 
 /// A log that is opened, and has no name yet.
 pub type OpenedLog<L> = Opened<Noted<L>, Legal<L>>;
@@ -47,7 +50,7 @@ pub fn open_log<L: LegPart>(alloc: Global) -> Result<OpenedLog<L>, AllocError> {
 #[derive(Drop)]
 pub struct EmptyLog<L: LegPart, J: Naming> {
     pub(crate) book: Log<L, J>,
-    pub(crate) keepers: StripeKeepers<L, J>,
+    pub(crate) keepers: ShardKeepers<L, J>,
     ghost first: { shard_of keepers.seat.me.0.role ≡ 0 },
 }
 
@@ -88,11 +91,11 @@ impl<L> Plans<L> for Brand {
 }
 
 /// A move, with the stripe to which it led.
-struct Told<N> {
+struct Made<N> {
     of: PhantomData<N>,
 }
 
-impl<L: LegPart, N: Tells<L>> Notes<GatedStripe<L>, Noted<L>> for Told<N> {
+impl<L: LegPart, N: Tells<L>> Notes<GatedStripe<L>, Noted<L>> for Made<N> {
     ghost use Rattle.nm_history.specs.declared.transition.Noted.TheVariants.{Moved};
 
     ghost what = { λ gated. Moved (record { made = N.made; to = gated }) };
@@ -103,7 +106,7 @@ impl<L: LegPart, N: Tells<L>> Notes<GatedStripe<L>, Noted<L>> for Told<N> {
 #[derive(Drop)]
 pub struct Trail<L: LegPart, J: Naming> {
     book: Arc<Log<L, J>>,
-    keeper: Option<StripeKeeper<L, J>>,
+    keeper: Option<ShardKeeper<L, J>>,
     own: LogPass<L, J>,
 }
 
@@ -151,7 +154,7 @@ impl<L: LegPart, J: Naming> Trail<L, J> {
     /// The trail of a stripe that opens, of which nothing was noted yet.
     pub(crate) fn new(
         book: Arc<Log<L, J>>,
-        keeper: StripeKeeper<L, J>,
+        keeper: ShardKeeper<L, J>,
         gated: &GatedStripe<L>,
     ) -> Self
         requires none { keeper.all ≡ [] }
@@ -160,7 +163,7 @@ impl<L: LegPart, J: Naming> Trail<L, J> {
     {
         gated.stripe.keeps();
         let mut own = book.pass();
-        let keeper = book.note::<GatedStripe<L>, Told<Opening>>(&mut own, keeper, gated);
+        let keeper = book.note::<GatedStripe<L>, Made<Opening>>(&mut own, keeper, gated);
         Trail {
             book,
             keeper: Some(keeper),
@@ -169,7 +172,7 @@ impl<L: LegPart, J: Naming> Trail<L, J> {
     }
 
     /// The keeper, whose transitions lead where the trail does.
-    pub(crate) fn into_keeper(self) -> StripeKeeper<L, J>
+    pub(crate) fn into_keeper(self) -> ShardKeeper<L, J>
         ensures { IfSome self
             (LeadsTo (leg_type L.model L.honest) result.shard (transitions result.all)) }
     {
@@ -251,7 +254,7 @@ impl<L: LegPart, J: Naming> Trail<L, J> {
         let Some(keeper) = self.keeper.take() else {
             unreachable!()
         };
-        self.keeper = Some(self.book.note::<GatedStripe<L>, Told<N>>(pass, keeper, to));
+        self.keeper = Some(self.book.note::<GatedStripe<L>, Made<N>>(pass, keeper, to));
     }
 
     /// Notes the move that led here, which no client's pass makes.
@@ -266,7 +269,7 @@ impl<L: LegPart, J: Naming> Trail<L, J> {
         };
         let noted = self
             .book
-            .note::<GatedStripe<L>, Told<N>>(&mut self.own, keeper, to);
+            .note::<GatedStripe<L>, Made<N>>(&mut self.own, keeper, to);
         self.keeper = Some(noted);
     }
 
