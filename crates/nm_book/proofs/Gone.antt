@@ -1,5 +1,6 @@
 -- Passes whose calls are over stay so.
 use Rattle.std.proofs.Common.{◌≡◌, ◌≢◌, ℕ, ◌≤◌, ◌<◌, ⊎_elim, List, [], ◌∷◌, ◌++◌, length, set, true, false, refl, ap, sym, ◌∙◌, subst, arith}
+use mathlib.Core.List.{IsPrefix}
 use mathlib.Core.Option.{some}
 use lib.ListN.{get_elem?}
 use Rattle.atomic_table.proofs.Lists.{at_set}
@@ -7,16 +8,16 @@ use Rattle.nm_book.specs.declared.rule.Entry.{Entry}
 use Rattle.nm_book.specs.declared.rule.Past.{Past}
 use Rattle.nm_book.specs.declared.rule.View.{View}
 use Rattle.nm_book.specs.Log.{calls_by, NotActing, AllGone, Apart, Distinct, Retired}
-use Rattle.nm_book.proofs.Lists.{at_end, set_length, length_end}
+use Rattle.nm_book.proofs.Lists.{at_end, length_end, prefix_self, prefix_trans, set_length}
 
 module _ {E : Type 0} where
   -- who does not act does not begin to
   abbrev Still : List (View E) → List (View E) → Type 0
   Still views after = (length views ≤ length after) × ((k : ℕ) → k < length views → NotActing views k → NotActing after k)
 
-  -- and gets no entry
+  -- and gets no entry in a log that goes on
   abbrev pub Quiet : List (View E) → List (Entry E) → List (Entry E) → Type 0
-  Quiet views log after = (k : ℕ) → NotActing views k → calls_by k after ≡ calls_by k log
+  Quiet views log after = ((k : ℕ) → NotActing views k → calls_by k after ≡ calls_by k log) × IsPrefix log after
 
   still_set : (views : List (View E)) (i : ℕ) (v w : View E) → get_elem? views i ≡ some v → (w.acts ≡ true → v.acts ≡ true)
       → Still views (set views i w)
@@ -44,7 +45,8 @@ module _ {E : Type 0} where
     record {
       there = (let l = all.0.there in let m = still.0 in omega (arith, l, m));
       idle = still.1 p.who all.0.there all.0.idle;
-      all = quiet p.who all.0.idle ∙ all.0.all;
+      all = quiet.0 p.who all.0.idle ∙ all.0.all;
+      seen = prefix_trans p.seen log more all.0.seen quiet.1;
     },
     all_on views after log more still quiet ps all.1,
   )
@@ -66,7 +68,7 @@ module _ {E : Type 0} where
   gone_kept views log i v w at acts same gone =
       let g = gone i v at in
       subst (λ (ps : List (Past E)). Distinct ps × AllGone (set views i w) log ps) (sym same)
-      (g.0, all_on views (set views i w) log log (still_set views i v w at acts) (λ k n. refl) v.gone g.1)
+      (g.0, all_on views (set views i w) log log (still_set views i v w at acts) ((λ k n. refl), prefix_self log) v.gone g.1)
 
   pub gone_same : (views : List (View E)) (log : List (Entry E)) (i : ℕ) (v : View E) → get_elem? views i ≡ some v
       → ((j : ℕ) (u : View E) → get_elem? views j ≡ some u → Retired views log u) → Retired (set views i v) log v
@@ -77,7 +79,7 @@ module _ {E : Type 0} where
       → ((j : ℕ) (u : View E) → get_elem? views j ≡ some u → Retired views log u) → Retired (views ++ w ∷ []) log w
       → (j : ℕ) (u : View E) → get_elem? (views ++ w ∷ []) j ≡ some u → Retired (views ++ w ∷ []) log u
   gone_end views log w gone own j u e = ⊎_elim
-      (λ (x : (j < length views) × (get_elem? views j ≡ some u)). (let g = gone j u x.1 in (g.0, all_on views (views ++ w ∷ []) log log (still_end views w) (λ k n. refl) u.gone g.1)))
+      (λ (x : (j < length views) × (get_elem? views j ≡ some u)). (let g = gone j u x.1 in (g.0, all_on views (views ++ w ∷ []) log log (still_end views w) ((λ k n. refl), prefix_self log) u.gone g.1)))
       (λ (x : (j ≡ length views) × (w ≡ u)). subst (λ (z : View E). Retired (views ++ w ∷ []) log z) x.1 own)
       (at_end views w u j e)
 
@@ -98,5 +100,5 @@ module _ {E : Type 0} where
       → (ps : List (Past E)) → AllGone views log ps → AllGone (set (set views i both) other spent) log ps
   gone_join views log i v both other w spent at acts there idle gone ps all =
       all_on (set views i both) (set (set views i both) other spent) log log
-      (still_set (set views i both) other w spent there (λ (a : spent.acts ≡ true). absurd (cc (idle, a)))) (λ k n. refl) ps
-      (all_on views (set views i both) log log (still_set views i v both at acts) (λ k n. refl) ps all)
+      (still_set (set views i both) other w spent there (λ (a : spent.acts ≡ true). absurd (cc (idle, a)))) ((λ k n. refl), prefix_self log) ps
+      (all_on views (set views i both) log log (still_set views i v both at acts) ((λ k n. refl), prefix_self log) ps all)

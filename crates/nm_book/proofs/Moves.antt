@@ -104,7 +104,7 @@ module _ {E : Type 0} (legal : ℕ → List E → Type 0) where
         (λ i w apart f. fits_on k.seat k.log n new by i w had.0 apart (k.fits i w f)) own j u e)
         (subst (λ (z : ℕ). Fits (moved k.seat n new) k.log z (as_keeper n [])) (sym (set_length s.views by (as_maker (n + 1)))) next);
     fresh = λ i le. k.fresh i (omega (arith, set_length s.views by (as_maker (n + 1)), length_end (set s.views by (as_maker (n + 1))) (as_keeper n []), le));
-    gone = gone_end (set s.views by (as_maker (n + 1))) k.log (as_keeper n []) (gone_set s.views k.log k.log by (as_maker n) (as_maker (n + 1)) at (λ (e : false ≡ true). absurd cc) (λ k n. refl) k.gone (tt, tt)) (tt, tt);
+    gone = gone_end (set s.views by (as_maker (n + 1))) k.log (as_keeper n []) (gone_set s.views k.log k.log by (as_maker n) (as_maker (n + 1)) at (λ (e : false ≡ true). absurd cc) ((λ k n. refl), prefix_self k.log) k.gone (tt, tt)) (tt, tt);
   }
     where
       new : ℕ
@@ -175,7 +175,7 @@ module _ {E : Type 0} (legal : ℕ → List E → Type 0) where
     fits = fits_set (moved k.seat s by) k.log (set x.views by both) other nobody
         (λ j u not e. fits_set2 j u not e) spent;
     fresh = λ i le. k.fresh i (omega (arith, set_length x.views by both, set_length (set x.views by both) other nobody, le));
-    gone = gone_set (set x.views by both) k.log k.log other (as_keeper s all) nobody there (λ (e : false ≡ true). absurd cc) (λ k n. refl) (gone_set x.views k.log k.log by v both at (λ a. a) (λ k n. refl) k.gone (tt, tt)) (tt, tt);
+    gone = gone_set (set x.views by both) k.log k.log other (as_keeper s all) nobody there (λ (e : false ≡ true). absurd cc) ((λ k n. refl), prefix_self k.log) (gone_set x.views k.log k.log by v both at (λ a. a) ((λ k n. refl), prefix_self k.log) k.gone (tt, tt)) (tt, tt);
   }
     where
       both : View E
@@ -229,7 +229,7 @@ module _ {E : Type 0} (legal : ℕ → List E → Type 0) where
         (λ i w apart f. fits_on k.seat k.log s new by i w had.0 apart (k.fits i w f)) own j u e)
         (subst (λ (z : ℕ). Fits (moved k.seat s new) k.log z (as_keeper s all)) (sym (set_length x.views by left)) next);
     fresh = λ i le. k.fresh i (omega (arith, set_length x.views by left, length_end (set x.views by left) (as_keeper s all), le));
-    gone = gone_end (set x.views by left) k.log (as_keeper s all) (gone_set x.views k.log k.log by v left at (λ a. a) (λ k n. refl) k.gone (tt, tt)) (tt, tt);
+    gone = gone_end (set x.views by left) k.log (as_keeper s all) (gone_set x.views k.log k.log by v left at (λ a. a) ((λ k n. refl), prefix_self k.log) k.gone (tt, tt)) (tt, tt);
   }
     where
       new : ℕ
@@ -271,7 +271,7 @@ module _ {E : Type 0} (legal : ℕ → List E → Type 0) where
       is_legal = legal_on;
       fits = fits_set k.seat log x.views by w others own;
       fresh = λ i le. (let l = is_there x.views by v at in calls_other k.log e i (λ (same : v.who ≡ i). absurd (omega (arith, same, who, l, le, set_length x.views by w))) ∙ k.fresh i (omega (arith, set_length x.views by w, le)));
-      gone = gone_set x.views k.log log by v w at (λ a. a) (λ j idle. calls_other k.log e j (λ (same : v.who ≡ j). idle v (subst (λ (n : ℕ). get_elem? x.views n ≡ some v) (sym who ∙ same) at) acts)) k.gone (tt, tt);
+      gone = gone_set x.views k.log log by v w at (λ a. a) ((λ j idle. calls_other k.log e j (λ (same : v.who ≡ j). idle v (subst (λ (n : ℕ). get_elem? x.views n ≡ some v) (sym who ∙ same) at) acts)), prefix_longer k.log k.log e (prefix_self k.log)) k.gone (tt, tt);
     },
     (
       (
@@ -344,7 +344,7 @@ module _ {E : Type 0} (legal : ℕ → List E → Type 0) where
       is_legal = k.is_legal;
       fits = fits_set k.seat k.log x.views by w (λ j u apart f. k.fits j u f) own;
       fresh = λ i le. k.fresh i (omega (arith, set_length x.views by w, le));
-      gone = gone_set x.views k.log k.log by v w at (λ a. a) (λ k n. refl) k.gone (tt, tt);
+      gone = gone_set x.views k.log k.log by v w at (λ a. a) ((λ k n. refl), prefix_self k.log) k.gone (tt, tt);
     },
     (
       (
@@ -379,7 +379,7 @@ module _ {E : Type 0} (legal : ℕ → List E → Type 0) where
         (λ j u l e. fits_set k.seat k.log x.views by v (λ i w apart f. k.fits i w f) old j u e)
         (subst (λ (z : ℕ). Fits k.seat k.log z (as_told v.seen)) (sym (set_length x.views by v)) next);
     fresh = λ i le. k.fresh i (omega (arith, set_length x.views by v, length_end (set x.views by v) (as_told v.seen), le));
-    gone = gone_end (set x.views by v) k.log (as_told v.seen) (gone_set x.views k.log k.log by v v at (λ a. a) (λ k n. refl) k.gone (gone_same x.views k.log by v at k.gone)) (tt, tt);
+    gone = gone_end (set x.views by v) k.log (as_told v.seen) (gone_set x.views k.log k.log by v v at (λ a. a) ((λ k n. refl), prefix_self k.log) k.gone (gone_same x.views k.log by v at k.gone)) (tt, tt);
   }
     where
       old : Fits {E = E} k.seat k.log by v
@@ -406,7 +406,7 @@ module _ {E : Type 0} (legal : ℕ → List E → Type 0) where
     fits = fits_set k.seat k.log (set x.views by both) other nobody
         (λ j u not e. fits_set k.seat k.log x.views by both (λ i w no f. k.fits i w f) own j u e) spent;
     fresh = λ i le. k.fresh i (omega (arith, set_length x.views by both, set_length (set x.views by both) other nobody, le));
-    gone = gone_set (set x.views by both) k.log k.log other (as_told told) nobody there (λ (e : false ≡ true). absurd cc) (λ k n. refl) (gone_set x.views k.log k.log by v both at (λ a. a) (λ k n. refl) k.gone (tt, tt)) (tt, tt);
+    gone = gone_set (set x.views by both) k.log k.log other (as_told told) nobody there (λ (e : false ≡ true). absurd cc) ((λ k n. refl), prefix_self k.log) (gone_set x.views k.log k.log by v both at (λ a. a) ((λ k n. refl), prefix_self k.log) k.gone (tt, tt)) (tt, tt);
   }
     where
       both : View E
@@ -454,7 +454,7 @@ module _ {E : Type 0} (legal : ℕ → List E → Type 0) where
     fits = fits_set k.seat k.log (set x.views by both) other nobody
         (λ j u not e. fits_set k.seat k.log x.views by both (λ i w no f. k.fits i w f) own j u e) spent;
     fresh = λ i le. k.fresh i (omega (arith, set_length x.views by both, set_length (set x.views by both) other nobody, le));
-    gone = gone_set (set x.views by both) k.log k.log other w nobody there (λ (e : false ≡ true). absurd cc) (λ k n. refl) (gone_set x.views k.log k.log by v both at (λ a. a) (λ k n. refl) k.gone (tt, tt)) (tt, tt);
+    gone = gone_set (set x.views by both) k.log k.log other w nobody there (λ (e : false ≡ true). absurd cc) ((λ k n. refl), prefix_self k.log) (gone_set x.views k.log k.log by v both at (λ a. a) ((λ k n. refl), prefix_self k.log) k.gone (tt, tt)) (tt, tt);
   }
     where
       both : View E
@@ -545,6 +545,7 @@ module _ {E : Type 0} (legal : ℕ → List E → Type 0) where
             (λ (t : (w.who ≢ other) × (get_elem? (set x.views by both) w.who ≡ some u)). t.0 (theirs.who acts))
             (at_set (set x.views by both) other w.who nobody u e);
         all = ap (λ (z : ℕ). calls_by z k.log) (theirs.who acts) ∙ theirs.mine acts;
+        seen = theirs.seen;
       }
 
       collected : Retired after k.log both
@@ -569,7 +570,7 @@ module _ {E : Type 0} (legal : ℕ → List E → Type 0) where
     fits = fits_set (moved k.seat s by) k.log (set x.views by both) other nobody
         (λ j u not e. fits_set2 j u not e) spent;
     fresh = λ i le. k.fresh i (omega (arith, set_length x.views by both, set_length (set x.views by both) other nobody, le));
-    gone = gone_set (set x.views by both) k.log k.log other (as_keeper s all) nobody there (λ (e : false ≡ true). absurd cc) (λ k n. refl) (gone_set x.views k.log k.log by (as_closer gone shards) both at (λ a. a) (λ k n. refl) k.gone (gone_kept x.views k.log by (as_closer gone shards) both at (λ a. a) refl k.gone)) (tt, tt);
+    gone = gone_set (set x.views by both) k.log k.log other (as_keeper s all) nobody there (λ (e : false ≡ true). absurd cc) ((λ k n. refl), prefix_self k.log) (gone_set x.views k.log k.log by (as_closer gone shards) both at (λ a. a) ((λ k n. refl), prefix_self k.log) k.gone (gone_kept x.views k.log by (as_closer gone shards) both at (λ a. a) refl k.gone)) (tt, tt);
   }
     where
       both : View E
@@ -623,7 +624,7 @@ module _ {E : Type 0} (legal : ℕ → List E → Type 0) where
 
   stand : (views : List (View E)) (log : List (Entry E)) (ps : List (Past E)) → AllGone views log ps → AllStand log ps
   stand views log [] all = tt
-  stand views log (p ∷ ps) all = (all.0.all, stand views log ps all.1)
+  stand views log (p ∷ ps) all = (all.0.all, all.0.seen, stand views log ps all.1)
 
   over : (log : List (Entry E)) (shards : List (Shard E)) → ((s : ℕ) (all : List (Entry E)) → IsAmong shards s all → all ≡ of_shard s log) → AllOver log shards
   over log [] each = tt
@@ -643,7 +644,7 @@ module _ {E : Type 0} (legal : ℕ → List E → Type 0) where
       is_legal = k.is_legal;
       fits = fits_set k.seat k.log x.views by (as_closer gone shards) (λ j u apart f. k.fits j u f) (k.fits by (as_closer gone shards) at);
       fresh = λ i le. k.fresh i (omega (arith, set_length x.views by (as_closer gone shards), le));
-      gone = gone_set x.views k.log k.log by (as_closer gone shards) (as_closer gone shards) at (λ a. a) (λ j n. refl) k.gone (gone_same x.views k.log by (as_closer gone shards) at k.gone);
+      gone = gone_set x.views k.log k.log by (as_closer gone shards) (as_closer gone shards) at (λ a. a) ((λ j n. refl), prefix_self k.log) k.gone (gone_same x.views k.log by (as_closer gone shards) at k.gone);
     },
     (refl, record { log = k.log; is_legal = k.is_legal; distinct = (k.gone by (as_closer gone shards) at).0; stand = stand x.views k.log gone (k.gone by (as_closer gone shards) at).1; over = over k.log shards (λ s all one. ((k.fits by (as_closer gone shards) at).role s (all, one)).1 all one) }),
   )

@@ -117,11 +117,12 @@ module _ {E : Type 0} where
   abbrev pub NotActing : List (View E) → ℕ → Type 0
   NotActing views k = (u : View E) → get_elem? views k ≡ some u → u.acts ≡ true → ⊥
 
-  -- the calls of this pass are over, and these are its entries in the log
+  -- the calls of this pass are over, these are its entries in the log, and it has seen a beginning
   pub record Gone (views : List (View E)) (log : List (Entry E)) (p : Past E) : Type 0 where
     pub there : p.who < length views
     pub idle : NotActing views p.who
     pub all : calls_by p.who log ≡ p.mine
+    pub seen : IsPrefix p.seen log
 
   abbrev pub AllGone : List (View E) → List (Entry E) → List (Past E) → Type 0
   AllGone views log [] = Unit {0}
@@ -210,15 +211,16 @@ module _ {E : Type 0} where
       }
 
   abbrev pub past_of : View E → Past E
-  past_of w = record { who = w.who; mine = w.mine }
+  past_of w = record { who = w.who; mine = w.mine; seen = w.seen }
 
   abbrev pub over_of : View E → Shard E
   over_of w = record { shard = shard_of w.role; all = all_of w.role }
 
-  -- in the log each of these passes has just its entries
+  -- in the log each of these passes has just its entries, and each has seen a beginning of it
   abbrev pub AllStand : List (Entry E) → List (Past E) → Type 0
   AllStand log [] = Unit {0}
-  AllStand log (p ∷ ps) = (calls_by p.who log ≡ p.mine) × AllStand log ps
+  AllStand log (p ∷ ps) =
+      (calls_by p.who log ≡ p.mine) × IsPrefix p.seen log × AllStand log ps
 
   -- and of each of these shards just these
   abbrev pub AllOver : List (Entry E) → List (Shard E) → Type 0
@@ -226,7 +228,7 @@ module _ {E : Type 0} where
   AllOver log (x ∷ shards) = (x.all ≡ of_shard x.shard log) × AllOver log shards
 
   -- one legal log has all entries of all of these passes, each once, in the order of its pass, and
-  -- of these shards just theirs
+  -- of these shards just theirs; what each of the passes has seen is a beginning of it
   pub record OneLog (legal : ℕ → List E → Type 0) (passes : List (Past E))
       (shards : List (Shard E)) : Type 0 where
     pub log : List (Entry E)

@@ -202,7 +202,7 @@ impl<E, G: Legality<E>, J: Naming> Book<E, G, J> {
     /// Takes in a pass whose calls are over.
     pub fn close(&self, closer: &mut Closer<E, J>, pass: Pass<E, J>)
         ensures passes { closer.new.passes
-            ≡ record { who = pass.who; mine = pass.mine } ∷ closer.old.passes }
+            ≡ record { who = pass.who; mine = pass.mine; seen = pass.seen } ∷ closer.old.passes }
         ensures shards { closer.new.shards ≡ closer.old.shards }
     {
         self.table
@@ -222,7 +222,7 @@ impl<E, G: Legality<E>, J: Naming> Book<E, G, J> {
     }
 
     /// One legal log has all entries of all of these passes, each once, in the order of its pass,
-    /// and of each of these shards just its entries.
+    /// and of each of these shards just its entries. What each pass has seen is a beginning of it.
     pub fn end(&self, closer: &mut Closer<E, J>)
         ensures one { OneLog G.legal closer.old.passes closer.old.shards }
         ensures same { closer.new ≡ closer.old }

@@ -32,10 +32,11 @@ pub struct View<E> {
     pub gone: LinkedList<Past<E>>,
 }
 
-/// A pass whose calls are over, with its entries.
+/// A pass whose calls are over, with its entries, and what it has seen of the log.
 pub struct Past<E> {
     pub who: u64,
     pub mine: LinkedList<Entry<E>>,
+    pub seen: LinkedList<Entry<E>>,
 }
 
 /// A shard that is over, to which nobody adds any more, with its entries.

@@ -37,9 +37,9 @@ module _ {A : Type 0} where
 
 module _ {L : Type 0} where
   -- one lane more
-  pub lane-closed : (lane : LaneState L) (pass : PassView (Noted L)) (done : List (LaneState L)) (old now new : List (Past (Noted L))) → pass ≡ lane.pass → now ≡ map past_of done ++ old → new ≡ record { who = pass.who; mine = pass.mine } ∷ now → new ≡ map past_of (lane ∷ done) ++ old
+  pub lane-closed : (lane : LaneState L) (pass : PassView (Noted L)) (done : List (LaneState L)) (old now new : List (Past (Noted L))) → pass ≡ lane.pass → now ≡ map past_of done ++ old → new ≡ record { who = pass.who; mine = pass.mine; seen = pass.seen } ∷ now → new ≡ map past_of (lane ∷ done) ++ old
   lane-closed lane pass done old now new is so added =
-      added ∙ ap (λ (p : PassView (Noted L)). let one : Past (Noted L) = record { who = p.who; mine = p.mine } in one ∷ now) is
+      added ∙ ap (λ (p : PassView (Noted L)). let one : Past (Noted L) = record { who = p.who; mine = p.mine; seen = p.seen } in one ∷ now) is
       ∙ ap (λ (l : List (Past (Noted L))). past_of lane ∷ l) so
 
   -- one pass more

@@ -17,7 +17,7 @@ use Rattle.nm_stripe.specs.End.{end_of}
 
 -- the pass of a lane through the log, once its calls are over
 abbrev pub past_of : {L : Type 0} → LaneState L → Past (Noted L)
-past_of lane = record { who = lane.pass.who; mine = lane.pass.mine }
+past_of lane = record { who = lane.pass.who; mine = lane.pass.mine; seen = lane.pass.seen }
 
 -- those of all parts of these passes, in order
 abbrev pub pasts_of : {L J : Type 0} → List (Pass L J) → List (Past (Noted L))
@@ -49,7 +49,8 @@ ReplayAll type ends shards = ⊥
 
 -- One log has the histories of all stripes: each begins with an opening, goes on by legal moves,
 -- and leads to the stripe whose end this is. In the log stand all entries of all parts of these
--- passes, each once, in the order of its part, and no two parts are one pass of the log.
+-- passes, each once, in the order of its part, and no two parts are one pass of the log. What each
+-- part has seen is a beginning of it: so the arrivals of which it had heard stand there too.
 pub record EndInOneLog {L J : Type 0} (type : LegType L) (passes : List (Pass L J))
     (ends : List EndOfOpenings) : Type 0 where
   pub shards : List (Shard (Noted L))
