@@ -17,6 +17,7 @@ pub use refused::Refused;
 pub use serve_fault::ServeFault;
 pub use served::Served;
 pub use session_core::SessionCore;
+pub use session_log::SessionLog;
 pub use target::Target;
 pub use target_fault::TargetFault;
 
@@ -42,6 +43,7 @@ mod refused;
 mod serve_fault;
 mod served;
 mod session_core;
+mod session_log;
 mod stage;
 mod target;
 mod target_fault;

@@ -1,6 +1,7 @@
 ghost use Rattle.std.specs.Prelude.{◌≡◌, ℕ, ◌+◌, ◌≤◌, List, [], ◌∷◌, ◌++◌, length};
 ghost use Rattle.nm_session.specs.Target.{TargetCall, Reads, Writes, Zeroes, Flushes, Syncs};
 
+use crate::session_log::SessionLog;
 use crate::target_fault::TargetFault;
 use bytes::Bytes;
 
@@ -9,11 +10,23 @@ use bytes::Bytes;
 ///
 /// A call that fails may have done any part of what it was asked for.
 pub trait Target {
+    /// A beginning of the history of what lies behind the target, as one has seen it.
+    type Told: Send + Drop;
+
+    /// How a session notes its requests in that history.
+    type Log: SessionLog<Told = Self::Told> + Send + Drop;
+
     /// How many bytes the target has. It never changes.
     ghost size: { Self → ℕ };
 
     /// These calls, answered so, lead from one state of the target to another.
     ghost follows: { Self → List TargetCall → Self → Type 0 };
+
+    /// The state has seen that: what is called from here on stands behind it.
+    ghost has_heard: { Self → Self.Told → Type 0 };
+
+    /// What the state has seen is told: what was called up to here stands in it.
+    ghost has_told: { Self → Self.Told → Type 0 };
 
     /// Reads the bytes from `offset` on into all of `into`. A fault may leave any bytes there.
     fn read(&mut self, offset: u64, into: &mut [u8]) -> Result<(), TargetFault>
@@ -42,6 +55,18 @@ pub trait Target {
     fn sync_touched(&mut self, offset: u64, length: u64) -> Result<(), TargetFault>
         requires { offset + length ≤ size self.old }
         ensures call { follows self.old (Syncs offset length result ∷ []) self.new }
+        ensures size { size self.new ≡ size self.old };
+
+    /// Takes in what another has seen of the history.
+    fn hear(&mut self, told: Self::Told)
+        ensures heard { has_heard self.new told }
+        ensures call { follows self.old [] self.new }
+        ensures size { size self.new ≡ size self.old };
+
+    /// Tells what was seen of the history.
+    fn tell(&mut self) -> Self::Told
+        ensures told { has_told self.new result }
+        ensures call { follows self.old [] self.new }
         ensures size { size self.new ≡ size self.old };
 
     /// No call leads from a state to itself.
