@@ -5,8 +5,8 @@ use Rattle.nm_session.specs.Session.{Session}
 use Rattle.nm_workers.specs.Serving.{Io, io, Negotiates}
 
 -- the input and output of a socket: of its bytes nothing is known
-abbrev pub untold : Io
-untold = io None None
+abbrev pub untold : Io (Unit {0})
+untold = io None None tt
 
 -- true where requests follow, false where the session has ended
 abbrev pub HasNegotiated : Bool → (from to : Session) → Type 0

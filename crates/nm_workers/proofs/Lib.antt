@@ -2,10 +2,12 @@ pub mod ResultRuns
 pub mod Results
 pub mod Steps
 pub mod RequestLemmas
+pub mod Arrivals
 pub mod Rounds
 pub mod ReadPieces
 pub mod WholeSessions
 pub mod Negotiations
 pub mod Owning
 pub mod Working
+pub mod JobCalls
 pub mod Rooms

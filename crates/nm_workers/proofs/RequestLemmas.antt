@@ -1,10 +1,9 @@
 -- What reading requests does to a core, and that each task can be called for.
-use Rattle.std.proofs.Common.{◌≡◌, ℕ, ◌≤◌, List, [], ◌∷◌, ◌++◌, Some, Ok, sym, ap, ◌∙◌, subst, ◌⊎◌, inl, inr, arith}
+use Rattle.std.proofs.Common.{◌≡◌, ℕ, ◌≤◌, List, [], ◌∷◌, Some, Ok, sym, ap, ◌∙◌, subst, ◌⊎◌, inl, inr, arith}
 use Rattle.nm_requests.specs.declared.request.Request.{Request}
 use Rattle.nm_requests.specs.declared.task.Task.{Task}
 use Rattle.nm_requests.specs.declared.task.Task.TheVariants as task
 use Rattle.nm_requests.specs.Judging.{LiesInside}
-use Rattle.nm_session.proofs.Events.{runs-append}
 use Rattle.nm_session.proofs.ReadEvents.{next_reads_on}
 use Rattle.nm_session.specs.declared.next.Next.TheVariants as next
 use Rattle.nm_session.specs.declared.stage.Stage.{Stage}
@@ -13,7 +12,6 @@ use Rattle.nm_session.specs.Asking.{next_after}
 use Rattle.nm_session.specs.Calling.{IsCallable}
 use Rattle.nm_session.specs.Event.{Event, Fed, Asked, Stopped, Answered, Took, Runs}
 use Rattle.nm_session.specs.Feeding.{FeedsAt, IsEnded}
-use Rattle.nm_session.specs.Laws.{AreReadings, IsRead}
 use Rattle.nm_session.specs.Reading.{Fills, IsStarved, Reads, StaysEnded, Disconnects, Breaks}
 use Rattle.nm_session.specs.Session.{Session, IsFull}
 use Rattle.nm_wire.specs.declared.export.Export.{Export}
@@ -47,22 +45,6 @@ pub size_stays : (old new : Session) (events : List Event) (size : ℕ) → Runs
     → size_of old.haggling.export ≤ size → size_of new.haggling.export ≤ size
 size_stays old new events size runs large =
     subst (λ (export : Export). size_of export ≤ size) (sym (export_stays events old new runs)) large
-
--- requests are read, and then more
-readings_on : (xs ys : List Event) → AreReadings xs → AreReadings ys → AreReadings (xs ++ ys)
-readings_on [] ys first more = more
-readings_on (Fed piece ∷ xs) ys first more = absurd first
-readings_on (Asked request judged ∷ xs) ys first more = readings_on xs ys first more
-readings_on (Stopped found ∷ xs) ys first more = readings_on xs ys first more
-readings_on (Answered index outcome ∷ xs) ys first more = absurd first
-readings_on (Took bytes ∷ xs) ys first more = absurd first
-
-pub reads_on : (a b d : Session) → IsRead a b → IsRead b d → IsRead a d
-reads_on a b d first more = record {
-  events = first.events ++ more.events;
-  are_readings = readings_on first.events more.events first.are_readings more.are_readings;
-  runs = runs-append a b d first.events more.events first.runs more.runs;
-}
 
 -- a task that lies inside an export can be called for
 callable : (request : Request) (export : Export) (task : Task) (index : ℕ) (payload : List ℕ) (size : ℕ)

@@ -4,12 +4,9 @@ use Rattle.nm_mailbox.specs.declared.message.Message.{Message}
 use Rattle.nm_session.specs.declared.serve_fault.ServeFault.{ServeFault}
 use Rattle.nm_session.specs.declared.serve_fault.ServeFault.TheVariants as fault
 use Rattle.nm_session.specs.declared.served.Served.{Served}
-use Rattle.nm_requests.specs.declared.task.Task.{Task}
 use Rattle.nm_session.specs.CalledValue.{CalledValue}
-use Rattle.nm_session.specs.Calling.{TaskResult}
-use Rattle.nm_session.specs.Laws.{IsRead}
 use Rattle.nm_session.specs.Io.{SendsOut, SendsPart}
-use Rattle.nm_session.specs.Session.{IsFull, IsReading, LacksRoom, Session}
+use Rattle.nm_session.specs.Session.{IsFull, IsReading, Session}
 use Rattle.nm_session.specs.Reading.{IsStarved}
 use Rattle.nm_workers.specs.declared.round.NoRequest.{NoRequest}
 use Rattle.nm_workers.specs.declared.round.NoRequest.TheVariants as why
@@ -18,11 +15,12 @@ use Rattle.nm_workers.specs.declared.round.Round.{Round}
 use Rattle.nm_workers.specs.declared.round.ReadState.{ReadState}
 use Rattle.nm_workers.specs.declared.round.ReadState.TheVariants as state
 use Rattle.nm_workers.specs.Moving.{OwnerState, owner_state, Moves, BreaksOff, HasNoRequest, IsKnown, IsOverAt, Attends, Leads, state_of}
+use Rattle.nm_workers.specs.Results.{Moment, moment, Note, ReadsWith}
 use Rattle.nm_workers.proofs.Steps.{moves_on, breaks_on, stops, reads, sends, sends_part}
 
-module _ {F : Task → TaskResult → Type 0} where
+module _ {G : Type 0} {F : Note → G → G → Type 0} where
   -- a move, and then the rest of the session
-  pub attends_on : (served : Served) (a b c : OwnerState) → Moves F a b → Attends F served b c → Attends F served a c
+  pub attends_on : (served : Served) (a b c : OwnerState G) → Moves F a b → Attends F served b c → Attends F served a c
   attends_on served a b c first second = record {
     moves = moves_on a b c first second.moves;
     sent = second.sent;
@@ -32,7 +30,7 @@ module _ {F : Task → TaskResult → Type 0} where
   }
 
   -- there is no memory, after a move
-  pub stops_there : (found : ServeFault) → found ≡ fault.Memory → (a b : OwnerState) → Moves F a b → BreaksOff F found a b
+  pub stops_there : (found : ServeFault) → found ≡ fault.Memory → (a b : OwnerState G) → Moves F a b → BreaksOff F found a b
   stops_there found is a b moves =
       subst (λ (f : ServeFault). BreaksOff F f a b) (sym is) (stops fault.Memory tt a b moves)
 
@@ -43,8 +41,8 @@ handed_on (Ok done) found P same holds = absurd same
 handed_on (Err handed) found P same holds = rw same holds
 
 -- a fault that is handed on breaks the session off
-pub led_off : {O : Type 0} {F : Task → TaskResult → Type 0} (contents : O → Option (List ℕ))
-    (result : Result Round ServeFault) (found : ServeFault) (old new : Owner O CalledValue)
+pub led_off : {O G : Type 0} {F : Note → G → G → Type 0} (contents : O → Option (List ℕ))
+    (result : Result Round ServeFault) (found : ServeFault) (old new : Owner O CalledValue G)
     → IsErrAnd result (λ handed. handed ≡ found)
     → BreaksOff F found (state_of contents old) (state_of contents new) → Leads F contents result old new
 led_off contents (Ok round) found old new same breaks = absurd same
@@ -85,22 +83,23 @@ pub no_request_sent : (found : NoRequest) (old new : Session) (output written : 
 no_request_sent found old new output written sent none =
     subst (λ (s : Session). HasNoRequest found s) (sym sent.takes.new_is) (sent_none found old none)
 
-module _ {F : Task → TaskResult → Type 0} where
-  module _ (old mid new : Session) (heard : List (Message CalledValue)) (output written : Option (List ℕ))
-      (read : IsRead old mid) where
+module _ {G : Type 0} {F : Note → G → G → Type 0} where
+  module _ (old : Moment G) (mid new : Session) (log : G) (heard : List (Message CalledValue)) (output written : Option (List ℕ))
+      (read : ReadsWith F old (moment mid log)) where
     -- requests are handed out, and replies sent
-    pub reads_sends : SendsOut mid new output written → Moves F (owner_state old heard output) (owner_state new heard written)
-    reads_sends sent = moves_on (owner_state old heard output) (owner_state mid heard output) (owner_state new heard written)
-        (reads old mid heard output read) (sends mid new heard output written sent)
+    pub reads_sends : SendsOut mid new output written → Moves F (owner_state old heard output) (owner_state (moment new log) heard written)
+    reads_sends sent = moves_on (owner_state old heard output) (owner_state (moment mid log) heard output) (owner_state (moment new log) heard written)
+        (reads old (moment mid log) heard output read) (sends mid new log heard output written sent)
 
     pub reads_sends_part : (found : ServeFault) → SendsPart found mid new output written
-        → BreaksOff F found (owner_state old heard output) (owner_state new heard written)
-    reads_sends_part found part = breaks_on found (owner_state old heard output) (owner_state mid heard output) (owner_state new heard written)
-        (reads old mid heard output read) (sends_part found mid new heard output written part)
+        → BreaksOff F found (owner_state old heard output) (owner_state (moment new log) heard written)
+    reads_sends_part found part = breaks_on found (owner_state old heard output) (owner_state (moment mid log) heard output)
+        (owner_state (moment new log) heard written)
+        (reads old (moment mid log) heard output read) (sends_part found mid new log heard output written part)
 
     -- and the session is over then
     pub over_there : (served : Served) (known : ReadState) → SendsOut mid new output written → IsKnown known heard
-        → IsOverAt served new known → Attends F served (owner_state old heard output) (owner_state new heard written)
+        → IsOverAt served new known → Attends F served (owner_state old heard output) (owner_state (moment new log) heard written)
     over_there served known sent is_known over = record {
       moves = reads_sends sent;
       sent = ap (λ (s : Session). s.out) sent.takes.new_is;

@@ -8,23 +8,22 @@ use Rattle.nm_mailbox.specs.declared.message.Message.TheVariants as message
 use Rattle.nm_mailbox.specs.declared.message.Piece.{Piece}
 use Rattle.nm_mailbox.specs.declared.message.Piece.TheVariants as piece
 use Rattle.nm_mailbox.specs.Messages.{pieces_of}
-use Rattle.nm_requests.specs.declared.task.Task.{Task}
 use Rattle.nm_session.proofs.Events.{fed-append, taken-append}
 use Rattle.nm_session.specs.declared.serve_fault.ServeFault.{ServeFault}
 use Rattle.nm_session.specs.declared.serve_fault.ServeFault.TheVariants as fault
 use Rattle.nm_session.specs.CalledValue.{CalledValue}
-use Rattle.nm_session.specs.Calling.{TaskResult}
 use Rattle.nm_session.specs.Event.{Event, Fed, Asked, Stopped, Answered, Took, fed_bytes, taken_bytes}
-use Rattle.nm_session.specs.Laws.{AreReadings, IsRead}
+use Rattle.nm_session.specs.Laws.{AreReadings}
 use Rattle.nm_session.specs.Io.{SendsOut, SendsPart}
 use Rattle.nm_session.specs.Session.{Session}
 use Rattle.nm_workers.specs.declared.round.ReadState.{ReadState}
 use Rattle.nm_workers.specs.declared.round.ReadState.TheVariants as state
 use Rattle.nm_workers.specs.Hearing.{Hears, IsCausedBy, Settles, SettlesJob}
-use Rattle.nm_workers.specs.Moving.{OwnerState, owner_state, Moves, BreaksOff, IsCause, IsKnown, IsLearned}
+use Rattle.nm_workers.specs.Moving.{OwnerState, at_moment, owner_state, Moves, BreaksOff, IsCause, IsKnown, IsLearned}
 use Rattle.nm_workers.specs.JobValue.{JobValue, called_for}
 use Rattle.nm_workers.specs.Pieces.{bytes_of, HasEnded}
-use Rattle.nm_workers.proofs.ResultRuns.{runs_with-append, readings_with}
+use Rattle.nm_workers.specs.Results.{Moment, moment, Note, ReadsWith}
+use Rattle.nm_workers.proofs.ResultRuns.{runs_with-append}
 
 pub bytes-append : (xs ys : List Piece) → bytes_of (xs ++ ys) ≡ bytes_of xs ++ bytes_of ys
 bytes-append [] ys = refl
@@ -50,13 +49,13 @@ fed_on xs ys ms ns first second =
     ∙ in_a_row (fed_bytes xs) (fed_bytes ys) (bytes_of (pieces_of ms)) (bytes_of (pieces_of ns)) first second
     ∙ sym (heard-append ms ns)
 
-module _ {F : Task → TaskResult → Type 0} where
+module _ {G : Type 0} {F : Note → G → G → Type 0} where
   -- one move after the other
-  pub moves_on : (a b c : OwnerState) → Moves F a b → Moves F b c → Moves F a c
+  pub moves_on : (a b c : OwnerState G) → Moves F a b → Moves F b c → Moves F a c
   moves_on a b c first second = record {
     events = first.events ++ second.events;
     messages = first.messages ++ second.messages;
-    runs = runs_with-append F a.core b.core c.core first.events second.events first.runs second.runs;
+    runs = runs_with-append F (at_moment a) (at_moment b) (at_moment c) first.events second.events first.runs second.runs;
     heard = second.heard ∙ ap (λ (heard : List (Message CalledValue)). heard ++ second.messages) first.heard
         ∙ append_assoc a.heard first.messages second.messages;
     fed_are = fed_on first.events second.events first.messages second.messages first.fed_are second.fed_are;
@@ -79,16 +78,16 @@ cause_on (fault.Write sent) before taken written cause = (
   cause.4,
 )
 
-module _ {F : Task → TaskResult → Type 0} where
+module _ {G : Type 0} {F : Note → G → G → Type 0} where
   -- a move, and then a break
-  pub breaks_on : (found : ServeFault) (a b c : OwnerState) → Moves F a b → BreaksOff F found b c
+  pub breaks_on : (found : ServeFault) (a b c : OwnerState G) → Moves F a b → BreaksOff F found b c
       → BreaksOff F found a c
   breaks_on found a b c first second = record {
     events = first.events ++ second.events;
     messages = first.messages ++ second.messages;
     lost = second.lost;
     written = taken_bytes first.events ++ second.written;
-    runs = runs_with-append F a.core b.core c.core first.events second.events first.runs second.runs;
+    runs = runs_with-append F (at_moment a) (at_moment b) (at_moment c) first.events second.events first.runs second.runs;
     heard = second.heard
         ∙ ap (λ (heard : List (Message CalledValue)). heard ++ (second.messages ++ second.lost)) first.heard
         ∙ append_assoc a.heard first.messages (second.messages ++ second.lost)
@@ -103,7 +102,7 @@ module _ {F : Task → TaskResult → Type 0} where
   }
 
   -- no move at all
-  pub moves_nowhere : (a : OwnerState) → Moves F a a
+  pub moves_nowhere : (a : OwnerState G) → Moves F a a
   moves_nowhere a = record {
     events = [];
     messages = [];
@@ -114,10 +113,10 @@ module _ {F : Task → TaskResult → Type 0} where
   }
 
   -- nor where the core stays
-  pub stays : (old new : Session) (heard : List (Message CalledValue)) (output : Option (List ℕ)) → new ≡ old
+  pub stays : (old new : Moment G) (heard : List (Message CalledValue)) (output : Option (List ℕ)) → new ≡ old
       → Moves F (owner_state old heard output) (owner_state new heard output)
   stays old new heard output same =
-      subst (λ (core : Session). Moves F (owner_state old heard output) (owner_state core heard output))
+      subst (λ (at : Moment G). Moves F (owner_state old heard output) (owner_state at heard output))
       (sym same) (moves_nowhere (owner_state old heard output))
 
 -- a fault that leaves nothing unwritten
@@ -131,9 +130,9 @@ quiet_cause fault.Memory written quiet = refl
 quiet_cause fault.Read written quiet = refl
 quiet_cause (fault.Write sent) written quiet = absurd quiet
 
-module _ {F : Task → TaskResult → Type 0} where
+module _ {G : Type 0} {F : Note → G → G → Type 0} where
   -- a move, and a fault there
-  pub stops : (found : ServeFault) → IsQuiet found → (a b : OwnerState) → Moves F a b → BreaksOff F found a b
+  pub stops : (found : ServeFault) → IsQuiet found → (a b : OwnerState G) → Moves F a b → BreaksOff F found a b
   stops found quiet a b moves = record {
     events = moves.events;
     messages = moves.messages;
@@ -164,14 +163,14 @@ readings_taken (Stopped found ∷ events) are = readings_taken events are
 readings_taken (Answered index outcome ∷ events) are = absurd are
 readings_taken (Took bytes ∷ events) are = absurd are
 
-module _ {F : Task → TaskResult → Type 0} where
+module _ {G : Type 0} {F : Note → G → G → Type 0} where
   -- requests that are read are a move
-  pub reads : (old new : Session) (heard : List (Message CalledValue)) (output : Option (List ℕ))
-      → IsRead old new → Moves F (owner_state old heard output) (owner_state new heard output)
+  pub reads : (old new : Moment G) (heard : List (Message CalledValue)) (output : Option (List ℕ))
+      → ReadsWith F old new → Moves F (owner_state old heard output) (owner_state new heard output)
   reads old new heard output read = record {
     events = read.events;
     messages = [];
-    runs = readings_with F old new read.events read.are_readings read.runs;
+    runs = read.runs;
     heard = sym (append-nil heard);
     fed_are = readings_fed read.events read.are_readings;
     appends = subst (Appends output output) (sym (readings_taken read.events read.are_readings))
@@ -179,29 +178,30 @@ module _ {F : Task → TaskResult → Type 0} where
   }
 
   -- replies are taken out and written
-  pub sends : (old new : Session) (heard : List (Message CalledValue)) (output written : Option (List ℕ))
-      → SendsOut old new output written → Moves F (owner_state old heard output) (owner_state new heard written)
-  sends old new heard output written sent = record {
+  pub sends : (old new : Session) (log : G) (heard : List (Message CalledValue)) (output written : Option (List ℕ))
+      → SendsOut old new output written
+      → Moves F (owner_state (moment old log) heard output) (owner_state (moment new log) heard written)
+  sends old new log heard output written sent = record {
     events = Took old.out ∷ [];
     messages = [];
-    runs = (new, sent.takes, refl);
+    runs = (moment new log, (sent.takes, refl), refl);
     heard = sym (append-nil heard);
     fed_are = refl;
     appends = subst (Appends output written) (sym (append-nil old.out)) sent.appends;
   }
 
   -- not all of them are written
-  pub sends_part : (found : ServeFault) (old new : Session) (heard : List (Message CalledValue))
+  pub sends_part : (found : ServeFault) (old new : Session) (log : G) (heard : List (Message CalledValue))
       (output written : Option (List ℕ)) → SendsPart found old new output written
-      → BreaksOff F found (owner_state old heard output) (owner_state new heard written)
-  sends_part fault.Memory old new heard output written part = absurd part
-  sends_part fault.Read old new heard output written part = absurd part
-  sends_part (fault.Write sent) old new heard output written part = record {
+      → BreaksOff F found (owner_state (moment old log) heard output) (owner_state (moment new log) heard written)
+  sends_part fault.Memory old new log heard output written part = absurd part
+  sends_part fault.Read old new log heard output written part = absurd part
+  sends_part (fault.Write sent) old new log heard output written part = record {
     events = Took old.out ∷ [];
     messages = [];
     lost = [];
     written = take sent old.out;
-    runs = (new, part.0, refl);
+    runs = (moment new log, (part.0, refl), refl);
     heard = sym (append-nil heard);
     fed_are = refl;
     appends = part.1;
@@ -209,7 +209,7 @@ module _ {F : Task → TaskResult → Type 0} where
   }
 
   -- a message that is taken is a move
-  pub hears : (old new : Session) (one : Message CalledValue) (heard : List (Message CalledValue))
+  pub hears : (old new : Moment G) (one : Message CalledValue) (heard : List (Message CalledValue))
       (output : Option (List ℕ)) → Hears F old one new
       → Moves F (owner_state old heard output) (owner_state new (heard ++ one ∷ []) output)
   hears old new (message.Piece (piece.Bytes bytes)) heard output is = record {
@@ -247,7 +247,7 @@ module _ {F : Task → TaskResult → Type 0} where
   }
 
   -- what came of the job that was held back is a move
-  settled : (called : CalledValue) (old new : Session) (heard : List (Message CalledValue)) (output : Option (List ℕ))
+  settled : (called : CalledValue) (old new : Moment G) (heard : List (Message CalledValue)) (output : Option (List ℕ))
       → Settles F old called new → Moves F (owner_state old heard output) (owner_state new heard output)
   settled called old new heard output (inl answers) = record {
     events = Answered called.index answers.outcome ∷ [];
@@ -259,7 +259,7 @@ module _ {F : Task → TaskResult → Type 0} where
   }
   settled called old new heard output (inr passes) = stays old new heard output passes.unchanged
 
-  pub settles : (old new : Session) (job : Option JobValue) (heard : List (Message CalledValue))
+  pub settles : (old new : Moment G) (job : Option JobValue) (heard : List (Message CalledValue))
       (output : Option (List ℕ)) → SettlesJob F old job new → Moves F (owner_state old heard output) (owner_state new heard output)
   settles old new job heard output done =
       settled (called_for done.job done.outcome) old new heard output done.settles
@@ -269,9 +269,9 @@ message_cause fault.Memory one is = refl
 message_cause fault.Read one is = refl
 message_cause (fault.Write sent) one is = absurd is
 
-module _ {F : Task → TaskResult → Type 0} where
+module _ {G : Type 0} {F : Note → G → G → Type 0} where
   -- a message that breaks the session off is lost
-  pub loses : (found : ServeFault) (old new : Session) (one : Message CalledValue) (heard : List (Message CalledValue))
+  pub loses : (found : ServeFault) (old new : Moment G) (one : Message CalledValue) (heard : List (Message CalledValue))
       (output : Option (List ℕ)) → IsCausedBy found one → new ≡ old
       → BreaksOff F found (owner_state old heard output) (owner_state new (heard ++ one ∷ []) output)
   loses found old new one heard output is same = record {
@@ -317,8 +317,8 @@ pub learns_at : (one : Message CalledValue) (heard all : List (Message CalledVal
 learns_at one heard all is_all next before is known =
     subst (IsKnown next) (sym is_all) (learns next before heard one is known)
 
-module _ {F : Task → TaskResult → Type 0} where
-  module _ (old new : Session) (one : Message CalledValue) (heard all : List (Message CalledValue))
+module _ {G : Type 0} {F : Note → G → G → Type 0} where
+  module _ (old new : Moment G) (one : Message CalledValue) (heard all : List (Message CalledValue))
       (is_all : all ≡ heard ++ one ∷ []) where
     -- the same, of all messages that were received by then
     pub hears_at : (output : Option (List ℕ)) → Hears F old one new → Moves F (owner_state old heard output) (owner_state new all output)
@@ -332,9 +332,9 @@ module _ {F : Task → TaskResult → Type 0} where
         (sym is_all) (loses found old new one heard output is same)
 
   -- no message comes any more
-  pub stops_hearing : (core : Session) (heard all : List (Message CalledValue)) (output : Option (List ℕ)) → all ≡ heard
-      → BreaksOff F fault.Read (owner_state core heard output) (owner_state core all output)
-  stops_hearing core heard all output same =
-      subst (λ (h : List (Message CalledValue)). BreaksOff F fault.Read (owner_state core heard output) (owner_state core h output))
-      (sym same) (stops fault.Read tt (owner_state core heard output) (owner_state core heard output)
-      (moves_nowhere (owner_state core heard output)))
+  pub stops_hearing : (at : Moment G) (heard all : List (Message CalledValue)) (output : Option (List ℕ)) → all ≡ heard
+      → BreaksOff F fault.Read (owner_state at heard output) (owner_state at all output)
+  stops_hearing at heard all output same =
+      subst (λ (h : List (Message CalledValue)). BreaksOff F fault.Read (owner_state at heard output) (owner_state at h output))
+      (sym same) (stops fault.Read tt (owner_state at heard output) (owner_state at heard output)
+      (moves_nowhere (owner_state at heard output)))

@@ -14,9 +14,7 @@ use Rattle.nm_session.specs.declared.serve_fault.ServeFault.TheVariants as fault
 use Rattle.nm_session.specs.declared.served.Served.{Served}
 use Rattle.nm_session.specs.declared.stage.Stage.{Stage}
 use Rattle.nm_session.specs.declared.stage.Stage.TheVariants as stage
-use Rattle.nm_requests.specs.declared.task.Task.{Task}
 use Rattle.nm_session.specs.CalledValue.{CalledValue}
-use Rattle.nm_session.specs.Calling.{TaskResult}
 use Rattle.nm_session.specs.Event.{Event, Fed, Asked, Stopped, Answered, Took, Runs, fed_bytes, taken_bytes, messages}
 use Rattle.nm_session.specs.Feeding.{FeedsAt}
 use Rattle.nm_session.specs.Laws.{SoFar}
@@ -28,17 +26,17 @@ use Rattle.nm_workers.specs.declared.round.ReadState.{ReadState}
 use Rattle.nm_workers.specs.Moving.{owner_state, Attends, BreaksOff, ComesTo, IsCause, IsKnown}
 use Rattle.nm_workers.specs.Pieces.{bytes_of, HasEnded}
 use Rattle.nm_workers.specs.Reading.{HasRead}
-use Rattle.nm_workers.specs.Serving.{Io, io, Goes, Ends, Breaks, EndsOrBreaks, IsServed, IsBrokenOff}
-use Rattle.nm_workers.specs.Results.{no_result}
-use Rattle.nm_workers.proofs.ResultRuns.{runs_with-append, runs_of, unanswered_with}
+use Rattle.nm_workers.specs.Serving.{Io, io, Left, left, Goes, Ends, Breaks, EndsOrBreaks, IsServed, IsBrokenOff}
+use Rattle.nm_workers.specs.Results.{moment, Note, no_note}
+use Rattle.nm_workers.proofs.ResultRuns.{runs_with-append, runs_of, unnoted_with}
 use Rattle.nm_workers.proofs.Steps.{bytes-append, heard-append, cause_on}
 
-module _ {F : Task → TaskResult → Type 0} where
+module _ {G : Type 0} {F : Note → G → G → Type 0} where
   -- one part of a session after the other
-  pub goes_on : (a b c : Session) (u v w : Io) → Goes F a b u v → Goes F b c v w → Goes F a c u w
+  pub goes_on : (a b c : Session) (u v w : Io G) → Goes F a b u v → Goes F b c v w → Goes F a c u w
   goes_on a b c u v w first second = record {
     events = first.events ++ second.events;
-    runs = runs_with-append F a b c first.events second.events first.runs second.runs;
+    runs = runs_with-append F (moment a u.log) (moment b v.log) (moment c w.log) first.events second.events first.runs second.runs;
     consumes = subst (Consumes u.input w.input) (sym (fed-append first.events second.events))
         (Consumes-trans u.input v.input w.input (fed_bytes first.events) (fed_bytes second.events)
         first.consumes second.consumes);
@@ -52,21 +50,21 @@ fed_on : (xs ys : List Event) (unfed : List ℕ) → fed_bytes xs ++ (fed_bytes 
 fed_on xs ys unfed = sym (append_assoc (fed_bytes xs) (fed_bytes ys) unfed)
     ∙ ap (λ (all : List ℕ). all ++ unfed) (sym (fed-append xs ys))
 
-module _ {F : Task → TaskResult → Type 0} where
-  pub ends_on : (served : Served) (a b : Session) (u v : Io) (written : Option (List ℕ)) → Goes F a b u v
-      → Ends F served b v written → Ends F served a u written
-  ends_on served a b u v written first second = record {
+module _ {G : Type 0} {F : Note → G → G → Type 0} where
+  pub ends_on : (served : Served) (a b : Session) (u v : Io G) (after : Left G) → Goes F a b u v
+      → Ends F served b v after → Ends F served a u after
+  ends_on served a b u v after first second = record {
     events = first.events ++ second.events;
     last = second.last;
     unread = second.unread;
     unfed = second.unfed;
-    runs = runs_with-append F a b second.last first.events second.events first.runs second.runs;
+    runs = runs_with-append F (moment a u.log) (moment b v.log) (moment second.last after.log) first.events second.events first.runs second.runs;
     consumes = subst (Consumes u.input second.unread) (fed_on first.events second.events second.unfed)
         (Consumes-trans u.input v.input second.unread (fed_bytes first.events) (fed_bytes second.events ++ second.unfed)
         first.consumes second.consumes);
     all_fed = second.all_fed;
-    appends = subst (Appends u.output written) (sym (taken-append first.events second.events))
-        (Appends-trans u.output v.output written (taken_bytes first.events) (taken_bytes second.events)
+    appends = subst (Appends u.output after.output) (sym (taken-append first.events second.events))
+        (Appends-trans u.output v.output after.output (taken_bytes first.events) (taken_bytes second.events)
         first.appends second.appends);
     answered = second.answered;
     sent = second.sent;
@@ -74,7 +72,7 @@ module _ {F : Task → TaskResult → Type 0} where
     end_is = second.end_is;
   }
 
-  pub breaks_on : (found : ServeFault) (a b : Session) (u v : Io) (after : Option (List ℕ)) → Goes F a b u v
+  pub breaks_on : (found : ServeFault) (a b : Session) (u v : Io G) (after : Left G) → Goes F a b u v
       → Breaks F found b v after → Breaks F found a u after
   breaks_on found a b u v after first second = record {
     events = first.events ++ second.events;
@@ -82,25 +80,26 @@ module _ {F : Task → TaskResult → Type 0} where
     unread = second.unread;
     unfed = second.unfed;
     written = taken_bytes first.events ++ second.written;
-    runs = runs_with-append F a b second.last first.events second.events first.runs second.runs;
+    runs = runs_with-append F (moment a u.log) (moment b v.log) (moment second.last after.log) first.events second.events first.runs second.runs;
     consumes = subst (Consumes u.input second.unread) (fed_on first.events second.events second.unfed)
         (Consumes-trans u.input v.input second.unread (fed_bytes first.events) (fed_bytes second.events ++ second.unfed)
         first.consumes second.consumes);
-    appends = Appends-trans u.output v.output after (taken_bytes first.events) second.written
+    appends = Appends-trans u.output v.output after.output (taken_bytes first.events) second.written
         first.appends second.appends;
     cause = subst (λ (all : List ℕ). IsCause found all (taken_bytes first.events ++ second.written))
         (sym (taken-append first.events second.events))
         (cause_on found (taken_bytes first.events) (taken_bytes second.events) second.written second.cause);
   }
 
-  pub ends_or_breaks_on : (result : Result Served ServeFault) (a b : Session) (u v : Io) (written : Option (List ℕ))
-      → Goes F a b u v → EndsOrBreaks F result b v written → EndsOrBreaks F result a u written
-  ends_or_breaks_on (Ok served) a b u v written first second = ends_on served a b u v written first second
-  ends_or_breaks_on (Err found) a b u v written first second = breaks_on found a b u v written first second
+  pub ends_or_breaks_on : (result : Result Served ServeFault) (a b : Session) (u v : Io G) (after : Left G)
+      → Goes F a b u v → EndsOrBreaks F result b v after → EndsOrBreaks F result a u after
+  ends_or_breaks_on (Ok served) a b u v after first second = ends_on served a b u v after first second
+  ends_or_breaks_on (Err found) a b u v after first second = breaks_on found a b u v after first second
 
   -- a session that broke off before anything happened
-  pub breaks_at_once : (core : Session) (bytes output : Option (List ℕ)) → Breaks F fault.Memory core (io bytes output) output
-  breaks_at_once core bytes output = record {
+  pub breaks_at_once : (core : Session) (bytes output : Option (List ℕ)) (log : G)
+      → Breaks F fault.Memory core (io bytes output log) (left output log)
+  breaks_at_once core bytes output log = record {
     events = [];
     last = core;
     unread = bytes;
@@ -117,7 +116,7 @@ second_none : {X : Type 0} (xs ys : List X) → xs ++ ys ≡ [] → ys ≡ []
 second_none [] ys none = none
 second_none (x ∷ xs) ys none = absurd (cc)
 
-module _ (bytes unread output after : Option (List ℕ)) (pieces : List Piece)
+module _ {G : Type 0} (bytes unread output after : Option (List ℕ)) (log later : G) (pieces : List Piece)
     (core last : Session) (heard : List (Message CalledValue))
     (read : HasRead bytes unread pieces) (begins : IsBeginning (pieces_of heard) pieces) where
   -- what was read is what the messages told, and what they did not
@@ -146,8 +145,9 @@ module _ (bytes unread output after : Option (List ℕ)) (pieces : List Piece)
   come_to end.Protocol known is_known comes = (comes, λ same. absurd (cc))
 
   -- requests were answered to the end
-  pub ends_there : {F : Task → TaskResult → Type 0} → (served : Served)
-      → Attends F served (owner_state core [] output) (owner_state last heard after) → Ends F served core (io bytes output) after
+  pub ends_there : {F : Note → G → G → Type 0} → (served : Served)
+      → Attends F served (owner_state (moment core log) [] output) (owner_state (moment last later) heard after)
+      → Ends F served core (io bytes output log) (left after later)
   ends_there served attends =
       let to = come_to served.end attends.known attends.is_known attends.is_over.end_is in
       record {
@@ -169,8 +169,9 @@ module _ (bytes unread output after : Option (List ℕ)) (pieces : List Piece)
       }
 
   -- a fault broke the session off
-  pub breaks_there : {F : Task → TaskResult → Type 0} → (found : ServeFault)
-      → BreaksOff F found (owner_state core [] output) (owner_state last heard after) → Breaks F found core (io bytes output) after
+  pub breaks_there : {F : Note → G → G → Type 0} → (found : ServeFault)
+      → BreaksOff F found (owner_state (moment core log) [] output) (owner_state (moment last later) heard after)
+      → Breaks F found core (io bytes output log) (left after later)
   breaks_there found breaks = record {
     events = breaks.events;
     last = last;
@@ -222,76 +223,79 @@ unwritten_of (fault.Write sent) all written cause = (
       ∙ ap (λ (front : List ℕ). front ++ drop sent cause.1) (sym cause.3),
 )
 
-module _ {F : Task → TaskResult → Type 0} where
-  -- a whole session that came to its end
-  pub whole : SoFar → (served : Served) (export : Export) (bytes output written : Option (List ℕ))
-      → Ends F served (session_of export (so_many 16)) (io bytes output) written → IsServed F served export (io bytes output) written
-  whole so_far served export bytes output written ends = record {
-    ends = ends;
-    requests = ends.requests ∙ omega (
-      arith,
-      counted (session_of export (so_many 16)) ends.last ends.events
-          (runs_of F (session_of export (so_many 16)) ends.last ends.events ends.runs),
-    );
-    goes_out = subst (GoesOut export (so_many 16) ends.events)
-        (ap (λ (rest : List ℕ). taken_bytes ends.events ++ rest) ends.sent ∙ append-nil (taken_bytes ends.events))
-        (so_far export (so_many 16) ends.events ends.last
-        (runs_of F (session_of export (so_many 16)) ends.last ends.events ends.runs));
-  }
+module _ {G : Type 0} {F : Note → G → G → Type 0} where
+  module _ (so_far : SoFar) (export : Export) (before : Io G) (after : Left G) where
+    -- a whole session that came to its end
+    pub whole : (served : Served) → Ends F served (session_of export (so_many 16)) before after
+        → IsServed F served export before after
+    whole served ends =
+        let runs = runs_of F (moment (session_of export (so_many 16)) before.log) (moment ends.last after.log)
+        ends.events ends.runs in
+        record {
+          ends = ends;
+          requests = ends.requests
+              ∙ omega (arith, counted (session_of export (so_many 16)) ends.last ends.events runs);
+          goes_out = subst (GoesOut export (so_many 16) ends.events)
+              (ap (λ (rest : List ℕ). taken_bytes ends.events ++ rest) ends.sent ∙ append-nil (taken_bytes ends.events))
+              (so_far export (so_many 16) ends.events ends.last runs);
+        }
 
-  -- a session that broke off
-  pub broken : SoFar → (found : ServeFault) (export : Export) (bytes output after : Option (List ℕ))
-      → Breaks F found (session_of export (so_many 16)) (io bytes output) after → IsBrokenOff F found export (io bytes output) after
-  broken so_far found export bytes output after breaks =
-      let rest = unwritten_of found (taken_bytes breaks.events) breaks.written breaks.cause in
-      record {
-        breaks = breaks;
-        unwritten = rest.0 ++ breaks.last.out;
-        goes_out = subst (GoesOut export (so_many 16) breaks.events)
-            (ap (λ (front : List ℕ). front ++ breaks.last.out) rest.1
-            ∙ append_assoc breaks.written rest.0 breaks.last.out)
-            (so_far export (so_many 16) breaks.events breaks.last
-            (runs_of F (session_of export (so_many 16)) breaks.last breaks.events breaks.runs));
-      }
+    -- a session that broke off
+    pub broken : (found : ServeFault) → Breaks F found (session_of export (so_many 16)) before after
+        → IsBrokenOff F found export before after
+    broken found breaks =
+        let rest = unwritten_of found (taken_bytes breaks.events) breaks.written breaks.cause in
+        record {
+          breaks = breaks;
+          unwritten = rest.0 ++ breaks.last.out;
+          goes_out = subst (GoesOut export (so_many 16) breaks.events)
+              (ap (λ (front : List ℕ). front ++ breaks.last.out) rest.1
+              ∙ append_assoc breaks.written rest.0 breaks.last.out)
+              (so_far export (so_many 16) breaks.events breaks.last
+              (runs_of F (moment (session_of export (so_many 16)) before.log) (moment breaks.last after.log)
+              breaks.events breaks.runs));
+        }
 
-  -- the haggling, after which nothing is answered yet
-  pub haggled : (a b : Session) (u v : Io) → Goes no_result a b u v → Goes F a b u v
-  haggled a b u v goes = record {
-    events = goes.events;
-    runs = unanswered_with F a b goes.events goes.runs;
-    consumes = goes.consumes;
-    appends = goes.appends;
-  }
+  module _ (core : Session) (u : Io (Unit {0})) (log : G) where
+    -- the haggling, after which nothing is noted yet
+    pub haggled : (to : Session) (v : Io (Unit {0})) → Goes no_note core to u v
+        → Goes F core to (io u.input u.output log) (io v.input v.output log)
+    haggled to v goes = record {
+      events = goes.events;
+      runs = unnoted_with F (moment core u.log) (moment to v.log) log goes.events goes.runs;
+      consumes = goes.consumes;
+      appends = goes.appends;
+    }
 
-  -- a session that ends in it
-  pub haggled_ends : (served : Served) (core : Session) (u : Io) (written : Option (List ℕ))
-      → Ends no_result served core u written → Ends F served core u written
-  haggled_ends served core u written ends = record {
-    events = ends.events;
-    last = ends.last;
-    unread = ends.unread;
-    unfed = ends.unfed;
-    runs = unanswered_with F core ends.last ends.events ends.runs;
-    consumes = ends.consumes;
-    all_fed = ends.all_fed;
-    appends = ends.appends;
-    answered = ends.answered;
-    sent = ends.sent;
-    requests = ends.requests;
-    end_is = ends.end_is;
-  }
+    -- a session that ends in it
+    pub haggled_ends : (served : Served) (after : Left (Unit {0})) → Ends no_note served core u after
+        → Ends F served core (io u.input u.output log) (left after.output log)
+    haggled_ends served after ends = record {
+      events = ends.events;
+      last = ends.last;
+      unread = ends.unread;
+      unfed = ends.unfed;
+      runs = unnoted_with F (moment core u.log) (moment ends.last after.log) log ends.events ends.runs;
+      consumes = ends.consumes;
+      all_fed = ends.all_fed;
+      appends = ends.appends;
+      answered = ends.answered;
+      sent = ends.sent;
+      requests = ends.requests;
+      end_is = ends.end_is;
+    }
 
-  -- or breaks off
-  pub haggled_breaks : (found : ServeFault) (core : Session) (u : Io) (after : Option (List ℕ))
-      → Breaks no_result found core u after → Breaks F found core u after
-  haggled_breaks found core u after breaks = record {
-    events = breaks.events;
-    last = breaks.last;
-    unread = breaks.unread;
-    unfed = breaks.unfed;
-    written = breaks.written;
-    runs = unanswered_with F core breaks.last breaks.events breaks.runs;
-    consumes = breaks.consumes;
-    appends = breaks.appends;
-    cause = breaks.cause;
-  }
+    -- or breaks off
+    pub haggled_breaks : (found : ServeFault) (after : Left (Unit {0})) → Breaks no_note found core u after
+        → Breaks F found core (io u.input u.output log) (left after.output log)
+    haggled_breaks found after breaks = record {
+      events = breaks.events;
+      last = breaks.last;
+      unread = breaks.unread;
+      unfed = breaks.unfed;
+      written = breaks.written;
+      runs = unnoted_with F (moment core u.log) (moment breaks.last after.log) log breaks.events breaks.runs;
+      consumes = breaks.consumes;
+      appends = breaks.appends;
+      cause = breaks.cause;
+    }

@@ -14,8 +14,6 @@ use Rattle.nm_session.specs.declared.serve_fault.ServeFault.{ServeFault}
 use Rattle.nm_session.specs.declared.serve_fault.ServeFault.TheVariants as fault
 use Rattle.nm_session.specs.declared.served.Served.{Served}
 use Rattle.nm_session.specs.CalledValue.{CalledValue}
-use Rattle.nm_requests.specs.declared.task.Task.{Task}
-use Rattle.nm_session.specs.Calling.{TaskResult}
 use Rattle.nm_session.specs.Event.{Event, fed_bytes, taken_bytes}
 use Rattle.nm_session.specs.Feeding.{IsEnded}
 use Rattle.nm_session.specs.Serving.{CoreEnds}
@@ -29,25 +27,33 @@ use Rattle.nm_workers.specs.declared.round.NoRequest.{NoRequest}
 use Rattle.nm_workers.specs.declared.round.NoRequest.TheVariants as why
 use Rattle.nm_workers.specs.declared.round.Owner.{Owner}
 use Rattle.nm_workers.specs.Pieces.{bytes_of, HasEnded}
-use Rattle.nm_workers.specs.Results.{RunsWith}
+use Rattle.nm_workers.specs.Results.{Moment, moment, Note, RunsWith}
 
--- a session at one moment: its core, the messages that its threads sent and that were received, and
--- what its writer holds, where it tells it
-pub record OwnerState : Type 0 where
+-- a session at one moment: its core and its log, the messages that its threads sent and that were
+-- received, and what its writer holds, where it tells it
+pub record OwnerState (G : Type 0) : Type 0 where
   pub core : Session
+  pub log : G
   pub heard : List (Message CalledValue)
   pub output : Option (List ℕ)
 
 -- the moment with these parts
-abbrev pub owner_state : Session → List (Message CalledValue) → Option (List ℕ) → OwnerState
-owner_state core heard output = record { core = core; heard = heard; output = output }
+abbrev pub owner_state : {G : Type 0} → Moment G → List (Message CalledValue) → Option (List ℕ)
+    → OwnerState G
+owner_state at heard output =
+    record { core = at.core; log = at.log; heard = heard; output = output }
+
+-- its core and its log
+abbrev pub at_moment : {G : Type 0} → OwnerState G → Moment G
+at_moment state = moment state.core state.log
 
 -- from one moment to another: the bytes of the pieces that were received are fed, what is taken out
 -- is written, and each request that is answered is so with a result of its own task
-pub record Moves (HasResult : Task → TaskResult → Type 0) (from to : OwnerState) : Type 0 where
+pub record Moves {G : Type 0} (Notes : Note → G → G → Type 0) (from to : OwnerState G)
+    : Type 0 where
   pub events : List Event
   pub messages : List (Message CalledValue)
-  pub runs : RunsWith HasResult from.core events to.core
+  pub runs : RunsWith Notes (at_moment from) events (at_moment to)
   pub heard : to.heard ≡ from.heard ++ messages
   pub fed_are : fed_bytes events ≡ bytes_of (pieces_of messages)
   pub appends : Appends from.output to.output (taken_bytes events)
@@ -62,13 +68,13 @@ IsCause (fault.Write sent) taken written =
     × (written ≡ before ++ take sent batch) × (sent < length batch)
 
 -- from one moment to that at which a fault broke the session off; the last messages may be lost
-pub record BreaksOff (HasResult : Task → TaskResult → Type 0) (fault : ServeFault)
-    (from to : OwnerState) : Type 0 where
+pub record BreaksOff {G : Type 0} (Notes : Note → G → G → Type 0) (fault : ServeFault)
+    (from to : OwnerState G) : Type 0 where
   pub events : List Event
   pub messages : List (Message CalledValue)
   pub lost : List (Message CalledValue)
   pub written : List ℕ
-  pub runs : RunsWith HasResult from.core events to.core
+  pub runs : RunsWith Notes (at_moment from) events (at_moment to)
   pub heard : to.heard ≡ from.heard ++ (messages ++ lost)
   pub fed_are : fed_bytes events ≡ bytes_of (pieces_of messages)
   pub appends : Appends from.output to.output written
@@ -108,37 +114,36 @@ pub record IsOverAt (served : Served) (core : Session) (known : ReadState) : Typ
   pub end_is : ComesTo served.end core known
 
 -- requests are answered up to the session's end, and all replies are written
-pub record Attends (HasResult : Task → TaskResult → Type 0) (served : Served)
-    (from to : OwnerState) : Type 0 where
-  pub moves : Moves HasResult from to
+pub record Attends {G : Type 0} (Notes : Note → G → G → Type 0) (served : Served)
+    (from to : OwnerState G) : Type 0 where
+  pub moves : Moves Notes from to
   pub sent : to.core.out ≡ []
   pub known : ReadState
   pub is_known : IsKnown known to.heard
   pub is_over : IsOverAt served to.core known
 
--- a round leads to the next one, or to the session's end
-abbrev pub IsRound : (HasResult : Task → TaskResult → Type 0) → Round → OwnerState → OwnerState
-    → Type 0
-IsRound HasResult (round.Continue next) from to = Moves HasResult from to × IsKnown next to.heard
-IsRound HasResult (round.SwitchReader next) from to =
-    Moves HasResult from to × IsKnown next to.heard
-IsRound HasResult (round.Done served) from to = Attends HasResult served from to
+module _ {G : Type 0} (Notes : Note → G → G → Type 0) where
+  -- a round leads to the next one, or to the session's end
+  abbrev pub IsRound : Round → OwnerState G → OwnerState G → Type 0
+  IsRound (round.Continue next) from to = Moves Notes from to × IsKnown next to.heard
+  IsRound (round.SwitchReader next) from to = Moves Notes from to × IsKnown next to.heard
+  IsRound (round.Done served) from to = Attends Notes served from to
 
--- requests are answered up to the session's end, or a fault breaks it off
-abbrev pub EndsAs : (HasResult : Task → TaskResult → Type 0) → Result Served ServeFault
-    → OwnerState → OwnerState → Type 0
-EndsAs HasResult (Ok served) from to = Attends HasResult served from to
-EndsAs HasResult (Err fault) from to = BreaksOff HasResult fault from to
+  -- requests are answered up to the session's end, or a fault breaks it off
+  abbrev pub EndsAs : Result Served ServeFault → OwnerState G → OwnerState G → Type 0
+  EndsAs (Ok served) from to = Attends Notes served from to
+  EndsAs (Err fault) from to = BreaksOff Notes fault from to
 
 -- an owner at one moment, where its writer's device holds this
-abbrev pub state_of : {O : Type 0} → (O → Option (List ℕ)) → Owner O CalledValue → OwnerState
+abbrev pub state_of : {O G : Type 0} → (O → Option (List ℕ)) → Owner O CalledValue G → OwnerState G
 state_of contents owner =
-    owner_state owner.core (received_by owner.inbox) (contents (device_of owner.sender))
+    owner_state (moment owner.core owner.log) (received_by owner.inbox)
+    (contents (device_of owner.sender))
 
 -- a round leads an owner on, or a fault breaks its session off
-abbrev pub Leads : {O : Type 0} → (HasResult : Task → TaskResult → Type 0)
-    → (O → Option (List ℕ)) → Result Round ServeFault → (old new : Owner O CalledValue) → Type 0
-Leads HasResult contents (Ok round) old new =
-    IsRound HasResult round (state_of contents old) (state_of contents new)
-Leads HasResult contents (Err fault) old new =
-    BreaksOff HasResult fault (state_of contents old) (state_of contents new)
+abbrev pub Leads : {O G : Type 0} → (Notes : Note → G → G → Type 0) → (O → Option (List ℕ))
+    → Result Round ServeFault → (old new : Owner O CalledValue G) → Type 0
+Leads Notes contents (Ok round) old new =
+    IsRound Notes round (state_of contents old) (state_of contents new)
+Leads Notes contents (Err fault) old new =
+    BreaksOff Notes fault (state_of contents old) (state_of contents new)

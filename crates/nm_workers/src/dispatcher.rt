@@ -1,9 +1,9 @@
 //! Requests on their way from the session's core to its workers, or to the owner itself.
 ghost use Rattle.std.specs.Prelude.{◌≡◌, ◌≤◌, IfOk, IfErr, IfSome};
 ghost use Rattle.nm_session.specs.declared.serve_fault.ServeFault.TheVariants.{Memory};
-ghost use Rattle.nm_session.specs.Laws.{IsRead};
 ghost use Rattle.nm_wire.specs.Export.{size_of};
 ghost use Rattle.nm_workers.specs.Moving.{HasNoRequest};
+ghost use Rattle.nm_workers.specs.Results.{IsNoted, moment, ReadsWith};
 
 use crate::job::{Extent, Job};
 use crate::pool::{WorkerPool, defer_job};
@@ -66,6 +66,7 @@ pub(crate) fn hand_out<'s, S, E, R, T>(
     rt: &'s R,
     alloc: Global,
     core: &mut SessionCore,
+    log: &mut T::Log,
     pool: &mut WorkerPool<'_, 's, S, E, T>,
 ) -> Result<NoRequest, ServeFault>
 where
@@ -73,12 +74,16 @@ where
     R: Threads + Wait + Sync + 's,
     T: Target + Send + Drop + 's,
     requires size { size_of core.old.haggling.export ≤ E.bytes }
-    ensures ok { IfOk result (λ why. IsRead core.old core.new) }
+    requires session { T.Log.session log.old ≡ E.session }
+    ensures ok { IfOk result (λ why. ReadsWith (IsNoted T.Target T.Log.SessionLog E.session)
+        (moment core.old log.old) (moment core.new log.new)) }
     ensures why { IfOk result (λ why. HasNoRequest why core.new) }
-    ensures err { IfErr result (λ fault. (fault ≡ Memory) × IsRead core.old core.new) }
+    ensures err { IfErr result (λ fault. (fault ≡ Memory)
+        × ReadsWith (IsNoted T.Target T.Log.SessionLog E.session)
+        (moment core.old log.old) (moment core.new log.new)) }
 {
     'requests: for _ in rt.forever() {
-        match issue(rt, alloc, core, pool) {
+        match issue(rt, alloc, core, log, pool) {
             Ok(None) => (),
             Ok(Some(why)) => return Ok(why),
             Err(fault) => return Err(fault),
@@ -92,6 +97,7 @@ fn issue<'s, S, E, R, T>(
     rt: &'s R,
     alloc: Global,
     core: &mut SessionCore,
+    log: &mut T::Log,
     pool: &mut WorkerPool<'_, 's, S, E, T>,
 ) -> Result<Option<NoRequest>, ServeFault>
 where
@@ -99,11 +105,15 @@ where
     R: Threads + Wait + Sync + 's,
     T: Target + Send + Drop + 's,
     requires size { size_of core.old.haggling.export ≤ E.bytes }
-    ensures ok { IfOk result (λ why. IsRead core.old core.new) }
+    requires session { T.Log.session log.old ≡ E.session }
+    ensures ok { IfOk result (λ why. ReadsWith (IsNoted T.Target T.Log.SessionLog E.session)
+        (moment core.old log.old) (moment core.new log.new)) }
     ensures why { IfOk result (λ why. IfSome why (λ why. HasNoRequest why core.new)) }
-    ensures err { IfErr result (λ fault. (fault ≡ Memory) × IsRead core.old core.new) }
+    ensures err { IfErr result (λ fault. (fault ≡ Memory)
+        × ReadsWith (IsNoted T.Target T.Log.SessionLog E.session)
+        (moment core.old log.old) (moment core.new log.new)) }
 {
-    let next = match Job::next(alloc, core) {
+    let next = match Job::<E, T>::next(alloc, core, log) {
         Ok(next) => next,
         Err(fault) => return Err(fault),
     };

@@ -6,7 +6,7 @@
 #![tactic(auto)]
 
 pub use negotiation::negotiate;
-pub use session::{Finished, serve_many, transmit};
+pub use session::{Backend, Finished, serve_many, transmit};
 pub use spin_wait::{BusyPoll, SpinToken};
 
 mod dispatcher;

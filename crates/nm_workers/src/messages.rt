@@ -2,16 +2,16 @@
 ghost use Rattle.std.specs.Prelude.{◌≡◌, ℕ, List, Option, IfOk, IfErr, OnOk};
 ghost use Rattle.nm_mailbox.specs.Ends.{received_by, IsSameInbox};
 ghost use Rattle.nm_workers.specs.Hearing.{Hears, IsCausedBy, Settles};
-ghost use Rattle.nm_workers.specs.Results.{IsResult};
+ghost use Rattle.nm_workers.specs.Results.{IsNoted, moment};
 ghost use Rattle.nm_workers.specs.Moving.{owner_state, Moves, BreaksOff, IsKnown, IsLearned};
 ghost use Rattle.nm_session.specs.declared.serve_fault.ServeFault.TheVariants.{Memory};
 
 use crate::dispatcher::Dispatcher;
-use crate::job::JobResult;
+use crate::job::{Extent, JobResult};
 use crate::read_buffer::ReadBuffer;
 use crate::round::ReadState;
 use nm_mailbox::{Inbox, Message, Piece};
-use nm_session::{Refused, ServeFault, SessionCore, Target};
+use nm_session::{Refused, ServeFault, SessionCore, SessionLog, Target};
 use std::alloc::Global;
 use std::sync::Wait;
 
@@ -29,28 +29,31 @@ pub(crate) fn are_to_be_sent(core: &SessionCore) -> bool {
 
 // Waits for a message, and takes it and those that wait by then, up to about 64 KiB of replies, or
 // the reply to a long READ.
-pub(crate) fn receive<R: Wait, C, T: Target + Drop>(
+pub(crate) fn receive<R: Wait, C, E: Extent, T: Target + Drop>(
     rt: &R,
     alloc: Global,
     core: &mut SessionCore,
-    inbox: &mut Inbox<JobResult<T>>,
+    log: &mut T::Log,
+    inbox: &mut Inbox<JobResult<E, T>>,
     state: ReadState,
     dispatcher: &mut Dispatcher<'_, C>,
 ) -> Result<ReadState, ServeFault>
     requires known { IsKnown state (received_by inbox.old) }
     ensures ok { IfOk result (λ next. (output : Option (List ℕ))
-        → Moves (IsResult T.follows) (owner_state core.old (received_by inbox.old) output)
-        (owner_state core.new (received_by inbox.new) output)) }
+        → Moves (IsNoted T.Target T.Log.SessionLog E.session)
+        (owner_state (moment core.old log.old) (received_by inbox.old) output)
+        (owner_state (moment core.new log.new) (received_by inbox.new) output)) }
     ensures known { IfOk result (λ next. IsKnown next (received_by inbox.new)) }
     ensures err { IfErr result (λ fault. (output : Option (List ℕ))
-        → BreaksOff (IsResult T.follows) fault (owner_state core.old (received_by inbox.old) output)
-        (owner_state core.new (received_by inbox.new) output)) }
+        → BreaksOff (IsNoted T.Target T.Log.SessionLog E.session) fault
+        (owner_state (moment core.old log.old) (received_by inbox.old) output)
+        (owner_state (moment core.new log.new) (received_by inbox.new) output)) }
     ensures channel { IsSameInbox inbox.new inbox.old }
 {
     let Some(first) = dispatcher.spin_wait.wait(rt, inbox, core.under_way()) else {
         return Err(ServeFault::Read);
     };
-    let mut state = match handle_message(alloc, core, first, state, &mut dispatcher.buffer) {
+    let mut state = match handle_message(alloc, core, log, first, state, &mut dispatcher.buffer) {
         Ok(state) => state,
         Err(fault) => return Err(fault),
     };
@@ -61,7 +64,7 @@ pub(crate) fn receive<R: Wait, C, T: Target + Drop>(
         let Some(message) = inbox.try_recv(rt) else {
             return Ok(state);
         };
-        match handle_message(alloc, core, message, state, &mut dispatcher.buffer) {
+        match handle_message(alloc, core, log, message, state, &mut dispatcher.buffer) {
             Ok(next) => state = next,
             Err(fault) => return Err(fault),
         }
@@ -71,20 +74,22 @@ pub(crate) fn receive<R: Wait, C, T: Target + Drop>(
 
 // Has the core take the piece, and lets the room for the next one follow it, or answers a request
 // with what came of its task. Gives what is known then of the client's bytes.
-fn handle_message<T: Target>(
+fn handle_message<E: Extent, T: Target>(
     alloc: Global,
     core: &mut SessionCore,
-    message: Message<JobResult<T>>,
+    log: &mut T::Log,
+    message: Message<JobResult<E, T>>,
     state: ReadState,
     room: &mut ReadBuffer,
 ) -> Result<ReadState, ServeFault>
-    ensures ok { IfOk result (λ next. Hears (IsResult T.follows) core.old message core.new) }
+    ensures ok { IfOk result (λ next. Hears (IsNoted T.Target T.Log.SessionLog E.session)
+        (moment core.old log.old) message (moment core.new log.new)) }
     ensures learned { IfOk result (λ next. IsLearned next state message) }
     ensures cause { IfErr result (λ fault. IsCausedBy fault message) }
-    ensures err { IfErr result (λ fault. core.new ≡ core.old) }
+    ensures err { IfErr result (λ fault. (core.new ≡ core.old) × (log.new ≡ log.old)) }
 {
     match message {
-        Message::Outcome(done) => match settle(alloc, core, done, room) {
+        Message::Outcome(done) => match settle(alloc, core, log, done, room) {
             Ok(()) => Ok(state),
             Err(fault) => Err(fault),
         },
@@ -105,39 +110,47 @@ fn handle_message<T: Target>(
 }
 
 // Answers the request with the result of its task, and keeps the room that came back with it.
-pub(crate) fn settle<T: Target>(
+pub(crate) fn settle<E: Extent, T: Target>(
     alloc: Global,
     core: &mut SessionCore,
-    done: JobResult<T>,
+    log: &mut T::Log,
+    done: JobResult<E, T>,
     room: &mut ReadBuffer,
 ) -> Result<(), ServeFault>
-    ensures ok { OnOk result (Settles (IsResult T.follows) core.old done core.new) }
+    ensures ok { OnOk result (Settles (IsNoted T.Target T.Log.SessionLog E.session)
+        (moment core.old log.old) done (moment core.new log.new)) }
     ensures memory { IfErr result (λ fault. fault ≡ Memory) }
-    ensures err { IfErr result (λ fault. core.new ≡ core.old) }
+    ensures err { IfErr result (λ fault. (core.new ≡ core.old) × (log.new ≡ log.old)) }
 {
     let mut done = done;
     room.give_back(done.take_room());
-    answer(alloc, core, done)
+    answer(alloc, core, log, done)
 }
 
-// Answers the request with the result of its task. One that is not outstanding stays as it is. The
-// result of another task than the request's never comes; it would break the session off.
-fn answer<T: Target>(
+// Answers the request with the result of its task, and hears of the calls that gave it before the
+// reply is sent. A request that is not outstanding stays as it is. The result of another task than
+// the request's never comes; it would break the session off.
+fn answer<E: Extent, T: Target>(
     alloc: Global,
     core: &mut SessionCore,
-    done: JobResult<T>,
+    log: &mut T::Log,
+    done: JobResult<E, T>,
 ) -> Result<(), ServeFault>
-    ensures ok { OnOk result (Settles (IsResult T.follows) core.old done core.new) }
+    ensures ok { OnOk result (Settles (IsNoted T.Target T.Log.SessionLog E.session)
+        (moment core.old log.old) done (moment core.new log.new)) }
     ensures memory { IfErr result (λ fault. fault ≡ Memory) }
-    ensures err { IfErr result (λ fault. core.new ≡ core.old) }
+    ensures err { IfErr result (λ fault. (core.new ≡ core.old) × (log.new ≡ log.old)) }
 {
-    let called = done.into_called();
+    let (called, told) = done.into_parts();
     let index = called.index();
     if !core.has_task(index, called.task()) {
         return Err(ServeFault::Memory);
     }
     match core.answer(alloc, index, called.into_outcome()) {
-        Ok(()) => Ok(()),
+        Ok(()) => {
+            log.hear(told);
+            Ok(())
+        }
         Err((Refused::Memory, _)) => Err(ServeFault::Memory),
         Err(_) => Ok(()),
     }

@@ -1,8 +1,8 @@
 //! A session's first part: the haggling over its export, before any thread is started.
 ghost use Rattle.std.specs.Prelude.{◌≡◌, ◌<◌, [], length, None, IfOk, IfErr};
 ghost use Rattle.nm_replies.specs.Sending.{device_of};
-ghost use Rattle.nm_workers.specs.Results.{no_result};
-ghost use Rattle.nm_workers.specs.Serving.{io, Negotiates, Breaks};
+ghost use Rattle.nm_workers.specs.Results.{no_note};
+ghost use Rattle.nm_workers.specs.Serving.{io, left, Negotiates, Breaks};
 
 use nm_replies::ReplyWriter;
 use nm_session::{End, Phase, ServeFault, Served, SessionCore, feed_piece, send_out};
@@ -23,13 +23,13 @@ pub fn negotiate<R: Wait, I: Read, O: Write>(
     requires idle { core.old.outstanding ≡ [] }
     requires room { 0 < length room.old }
     ensures ok { IfOk result (λ served. Negotiates served core.old core.new
-        (io (I.remaining reader.old) (O.contents (device_of sender.old)))
-        (io (I.remaining reader.new) (O.contents (device_of sender.new)))) }
+        (io (I.remaining reader.old) (O.contents (device_of sender.old)) tt)
+        (io (I.remaining reader.new) (O.contents (device_of sender.new)) tt)) }
     ensures export { IfOk result (λ served. served ≡ None
         → core.new.haggling.export ≡ core.old.haggling.export) }
-    ensures err { IfErr result (λ fault. Breaks no_result fault core.old
-        (io (I.remaining reader.old) (O.contents (device_of sender.old)))
-        (O.contents (device_of sender.new))) }
+    ensures err { IfErr result (λ fault. Breaks no_note fault core.old
+        (io (I.remaining reader.old) (O.contents (device_of sender.old)) tt)
+        (left (O.contents (device_of sender.new)) tt)) }
 {
     'pieces: for _ in rt.forever() {
         if let Err(fault) = send_out(core, sender) {

@@ -19,8 +19,8 @@ const WAITING: usize = 16;
 // their jobs.
 #[derive(Drop)]
 pub struct IdleWorkers<E: Extent, T: Target> {
-    jobs: Sender<Job<E>>,
-    tasks: Receiver<Job<E>>,
+    jobs: Sender<Job<E, T>>,
+    tasks: Receiver<Job<E, T>>,
     pub(crate) spare: Vec<Worker<E, T>>,
 }
 
@@ -29,11 +29,11 @@ impl<E: Extent, T: Target + Drop> IdleWorkers<E, T> {
     pub(crate) fn new(
         alloc: Global,
         targets: Vec<T>,
-        ends: Vec<OutcomeEnd<JobResult<T>>>,
+        ends: Vec<OutcomeEnd<JobResult<E, T>>>,
     ) -> Result<IdleWorkers<E, T>, Memory>
         requires sizes { All (λ target. E.bytes ≤ T.size target) targets.items }
     {
-        let (jobs, tasks) = bounded::<Job<E>, Global>(alloc, WAITING)?;
+        let (jobs, tasks) = bounded::<Job<E, T>, Global>(alloc, WAITING)?;
         let spare = spare_workers::<E, T>(alloc, targets, ends)?;
         Ok(IdleWorkers { jobs, tasks, spare })
     }
@@ -43,7 +43,7 @@ impl<E: Extent, T: Target + Drop> IdleWorkers<E, T> {
 fn spare_workers<E: Extent, T: Target + Drop>(
     alloc: Global,
     targets: Vec<T>,
-    ends: Vec<OutcomeEnd<JobResult<T>>>,
+    ends: Vec<OutcomeEnd<JobResult<E, T>>>,
 ) -> Result<Vec<Worker<E, T>>, Memory>
     requires sizes { All (λ target. E.bytes ≤ T.size target) targets.items }
 {
@@ -67,7 +67,7 @@ pub struct WorkerPool<'a, 's, S, E: Extent, T: Target> {
     scope: &'a Scope<'s, S>,
     pub(crate) idle: IdleWorkers<E, T>,
     started: usize,
-    pub(crate) deferred: Option<Job<E>>,
+    pub(crate) deferred: Option<Job<E, T>>,
 }
 
 impl<'a, 's, S, E: Extent, T: Target> WorkerPool<'a, 's, S, E, T> {
@@ -106,7 +106,7 @@ impl<'a, 's, S, E: Extent, T: Target> WorkerPool<'a, 's, S, E, T> {
     }
 
     // Takes the job that is deferred, and a worker without a thread.
-    pub(crate) fn take_deferred(&mut self) -> (Job<E>, Worker<E, T>)
+    pub(crate) fn take_deferred(&mut self) -> (Job<E, T>, Worker<E, T>)
         requires deferred { IsSome self.old.deferred }
         requires spare { 0 < vec_len self.old.idle.spare }
         ensures job { self.old.deferred ≡ Some result.0 }
@@ -131,7 +131,7 @@ pub(crate) fn defer_job<'s, S, E, R, T>(
     rt: &'s R,
     alloc: Global,
     pool: &mut WorkerPool<'_, 's, S, E, T>,
-    job: Job<E>,
+    job: Job<E, T>,
     under_way: usize,
 ) -> Result<(), Memory>
 where
@@ -168,7 +168,7 @@ fn submit_job<'s, S, E, R, T>(
     rt: &'s R,
     alloc: Global,
     pool: &mut WorkerPool<'_, 's, S, E, T>,
-    job: Job<E>,
+    job: Job<E, T>,
     under_way: usize,
 ) -> Result<(), Memory>
 where

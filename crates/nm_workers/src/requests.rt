@@ -1,15 +1,12 @@
 //! A session's requests to its end: handed out to its workers, or done by the owner of its core,
 //! and answered as they are done.
-ghost use Rattle.std.specs.Prelude.{◌≡◌, ◌≤◌, ◌<◌, List, IfErr, IfSome, OnOk, IsSome, vec_len};
-ghost use Rattle.nm_mailbox.specs.declared.message.Message.{Message};
+ghost use Rattle.std.specs.Prelude.{◌≡◌, ◌≤◌, ◌<◌, IfErr, IfSome, OnOk, IsSome, vec_len};
 ghost use Rattle.nm_mailbox.specs.Ends.{received_by, IsSameInbox};
-ghost use Rattle.nm_replies.specs.Sending.{device_of};
 ghost use Rattle.nm_session.specs.declared.serve_fault.ServeFault.TheVariants.{Memory};
-ghost use Rattle.nm_session.specs.CalledValue.{CalledValue};
 ghost use Rattle.nm_wire.specs.Export.{size_of};
 ghost use Rattle.nm_workers.specs.Hearing.{SettlesJob};
-ghost use Rattle.nm_workers.specs.Results.{IsResult};
-ghost use Rattle.nm_workers.specs.Moving.{owner_state, Moves, BreaksOff, HasNoRequest, IsKnown};
+ghost use Rattle.nm_workers.specs.Results.{IsNoted, moment};
+ghost use Rattle.nm_workers.specs.Moving.{Moves, BreaksOff, HasNoRequest, IsKnown};
 ghost use Rattle.nm_workers.specs.Moving.{state_of, EndsAs, IsOverAt, Leads};
 ghost use Rattle.nm_workers.specs.Reading.{ReadsFurther, reader_of};
 
@@ -40,10 +37,10 @@ pub struct AllServed<I, M: Drop> {
 pub(crate) fn serve_requests<'s, S, E, R, I, O, T>(
     rt: &'s R,
     alloc: Global,
-    owner: &mut Owner<O, JobResult<T>>,
+    owner: &mut Owner<O, JobResult<E, T>, T::Log>,
     dispatcher: Dispatcher<'_, WorkerPool<'_, 's, S, E, T>>,
-    reader: Reader<I, JobResult<T>>,
-) -> AllServed<I, JobResult<T>>
+    reader: Reader<I, JobResult<E, T>>,
+) -> AllServed<I, JobResult<E, T>>
 where
     E: Extent + Send + 's,
     R: Threads + Wait + Sync + 's,
@@ -51,7 +48,8 @@ where
     O: Write,
     T: Target + Send + Drop + 's,
     requires size { size_of owner.old.core.haggling.export ≤ E.bytes }
-    ensures ends { EndsAs (IsResult T.follows) result.result
+    requires session { T.Log.session owner.old.log ≡ E.session }
+    ensures ends { EndsAs (IsNoted T.Target T.Log.SessionLog E.session) result.result
         (state_of O.contents owner.old) (state_of O.contents owner.new) }
     ensures channel { IsSameInbox owner.new.inbox owner.old.inbox }
     ensures reads { ReadsFurther I.remaining reader result.reader }
@@ -81,9 +79,9 @@ where
 fn finish<'s, S, E, R, I, T>(
     rt: &R,
     dispatcher: Dispatcher<'_, WorkerPool<'_, 's, S, E, T>>,
-    by: ReadBy<I, JobResult<T>>,
+    by: ReadBy<I, JobResult<E, T>>,
     end: Result<Served, ServeFault>,
-) -> AllServed<I, JobResult<T>>
+) -> AllServed<I, JobResult<E, T>>
 where
     E: Extent,
     R: Threads,
@@ -115,9 +113,9 @@ fn dismiss<S, E: Extent, T: Target + Drop>(
 fn one_round<'s, S, E, R, I, O, T>(
     rt: &'s R,
     alloc: Global,
-    owner: &mut Owner<O, JobResult<T>>,
+    owner: &mut Owner<O, JobResult<E, T>, T::Log>,
     dispatcher: &mut Dispatcher<'_, WorkerPool<'_, 's, S, E, T>>,
-    by: &mut ReadBy<I, JobResult<T>>,
+    by: &mut ReadBy<I, JobResult<E, T>>,
     state: ReadState,
 ) -> Result<Round, ServeFault>
 where
@@ -127,8 +125,10 @@ where
     O: Write,
     T: Target + Send + Drop + 's,
     requires size { size_of owner.old.core.haggling.export ≤ E.bytes }
+    requires session { T.Log.session owner.old.log ≡ E.session }
     requires known { IsKnown state (received_by owner.old.inbox) }
-    ensures leads { Leads (IsResult T.follows) O.contents result owner.old owner.new }
+    ensures leads { Leads (IsNoted T.Target T.Log.SessionLog E.session) O.contents result
+        owner.old owner.new }
     ensures channel { IsSameInbox owner.new.inbox owner.old.inbox }
     ensures reads { ReadsFurther I.remaining (reader_of by.old) (reader_of by.new) }
 {
@@ -138,19 +138,14 @@ where
     if are_to_be_sent(&owner.core) {
         return send_gathered(owner, state);
     }
-    let why = hand_out(rt, alloc, &mut owner.core, &mut dispatcher.pool)?;
+    let pool = &mut dispatcher.pool;
+    let why = hand_out(rt, alloc, &mut owner.core, &mut owner.log, pool)?;
     note_request(&owner.core, dispatcher);
     if is_to_switch(by, dispatcher, state) {
         return Ok(Round::SwitchReader(state));
     }
     if by.is_owner() && dispatcher.pool.can_do_it_here() {
-        do_deferred(
-            alloc,
-            &mut owner.core,
-            &mut owner.sender,
-            &mut dispatcher.pool,
-            &mut dispatcher.buffer,
-        )?;
+        do_deferred(alloc, owner, dispatcher)?;
         return Ok(Round::Continue(state));
     }
     let state = permit_piece(rt, alloc, &owner.core, Lull { why, state }, dispatcher, by)?;
@@ -166,6 +161,7 @@ where
         rt,
         alloc,
         &mut owner.core,
+        &mut owner.log,
         &mut owner.inbox,
         state,
         dispatcher,
@@ -174,12 +170,13 @@ where
 }
 
 // Sends the replies that wait, and does nothing else.
-fn send_gathered<O: Write, T: Target + Drop>(
-    owner: &mut Owner<O, JobResult<T>>,
+fn send_gathered<E: Extent, O: Write, T: Target + Drop>(
+    owner: &mut Owner<O, JobResult<E, T>, T::Log>,
     state: ReadState,
 ) -> Result<Round, ServeFault>
     requires known { IsKnown state (received_by owner.old.inbox) }
-    ensures leads { Leads (IsResult T.follows) O.contents result owner.old owner.new }
+    ensures leads { Leads (IsNoted T.Target T.Log.SessionLog E.session) O.contents result
+        owner.old owner.new }
     ensures channel { IsSameInbox owner.new.inbox owner.old.inbox }
 {
     send_out(&mut owner.core, &mut owner.sender)?;
@@ -201,7 +198,7 @@ fn note_request<S, E: Extent, T: Target>(
 // request is not given to a worker yet; a thread, where a request is not short, or came with
 // others, or many were done here.
 fn is_to_switch<S, E: Extent, I: Read, T: Target>(
-    by: &ReadBy<I, JobResult<T>>,
+    by: &ReadBy<I, JobResult<E, T>>,
     dispatcher: &Dispatcher<'_, WorkerPool<'_, '_, S, E, T>>,
     state: ReadState,
 ) -> bool {
@@ -213,7 +210,7 @@ fn is_to_switch<S, E: Extent, I: Read, T: Target>(
 
 // Whether the owner reads for a client that does not wait for each reply, as at first.
 fn wants_thread<S, E: Extent, I: Read, T: Target>(
-    by: &ReadBy<I, JobResult<T>>,
+    by: &ReadBy<I, JobResult<E, T>>,
     dispatcher: &Dispatcher<'_, WorkerPool<'_, '_, S, E, T>>,
 ) -> bool {
     by.is_owner() && !dispatcher.client.is_serial()
@@ -237,24 +234,25 @@ fn over(core: &SessionCore, lull: Lull) -> Option<Served>
 // Does the request that is deferred and sends its reply.
 fn do_deferred<S, E: Extent, O: Write, T: Target + Drop>(
     alloc: Global,
-    core: &mut SessionCore,
-    sender: &mut ReplyWriter<O>,
-    pool: &mut WorkerPool<'_, '_, S, E, T>,
-    room: &mut ReadBuffer,
+    owner: &mut Owner<O, JobResult<E, T>, T::Log>,
+    dispatcher: &mut Dispatcher<'_, WorkerPool<'_, '_, S, E, T>>,
 ) -> Result<(), ServeFault>
-    requires deferred { IsSome pool.old.deferred }
-    requires spare { 0 < vec_len pool.old.idle.spare }
-    ensures ok { OnOk result ((heard : List (Message CalledValue))
-        → Moves (IsResult T.follows)
-        (owner_state core.old heard (O.contents (device_of sender.old)))
-        (owner_state core.new heard (O.contents (device_of sender.new)))) }
-    ensures err { IfErr result (λ fault. (heard : List (Message CalledValue))
-        → BreaksOff (IsResult T.follows) fault
-        (owner_state core.old heard (O.contents (device_of sender.old)))
-        (owner_state core.new heard (O.contents (device_of sender.new)))) }
+    requires deferred { IsSome dispatcher.old.pool.deferred }
+    requires spare { 0 < vec_len dispatcher.old.pool.idle.spare }
+    ensures ok { OnOk result (Moves (IsNoted T.Target T.Log.SessionLog E.session)
+        (state_of O.contents owner.old) (state_of O.contents owner.new)) }
+    ensures err { IfErr result (λ fault. BreaksOff (IsNoted T.Target T.Log.SessionLog E.session)
+        fault (state_of O.contents owner.old) (state_of O.contents owner.new)) }
+    ensures inbox { owner.new.inbox ≡ owner.old.inbox }
 {
-    answer_deferred(alloc, core, pool, room)?;
-    send_out(core, sender)?;
+    answer_deferred(
+        alloc,
+        &mut owner.core,
+        &mut owner.log,
+        &mut dispatcher.pool,
+        &mut dispatcher.buffer,
+    )?;
+    send_out(&mut owner.core, &mut owner.sender)?;
     Ok(())
 }
 
@@ -262,16 +260,19 @@ fn do_deferred<S, E: Extent, O: Write, T: Target + Drop>(
 fn answer_deferred<S, E: Extent, T: Target + Drop>(
     alloc: Global,
     core: &mut SessionCore,
+    log: &mut T::Log,
     pool: &mut WorkerPool<'_, '_, S, E, T>,
     room: &mut ReadBuffer,
 ) -> Result<(), ServeFault>
     requires deferred { IsSome pool.old.deferred }
     requires spare { 0 < vec_len pool.old.idle.spare }
-    ensures ok { OnOk result (SettlesJob (IsResult T.follows) core.old pool.old.deferred core.new) }
-    ensures err { IfErr result (λ fault. (fault ≡ Memory) × (core.new ≡ core.old)) }
+    ensures ok { OnOk result (SettlesJob (IsNoted T.Target T.Log.SessionLog E.session)
+        (moment core.old log.old) pool.old.deferred (moment core.new log.new)) }
+    ensures err { IfErr result (λ fault. (fault ≡ Memory)
+        × (core.new ≡ core.old) × (log.new ≡ log.old)) }
 {
     let (job, worker) = pool.take_deferred();
     let (done, worker) = worker.do_job(alloc, job);
     pool.take_back(worker);
-    settle(alloc, core, done, room)
+    settle(alloc, core, log, done, room)
 }

@@ -3,11 +3,12 @@ use nm_mailbox::Inbox;
 use nm_replies::ReplyWriter;
 use nm_session::{Served, SessionCore};
 
-// What one thread of a session has to itself: the core, the inbox to which the others send, and the
-// writer of the replies.
+// What one thread of a session has to itself: the core and the log, the inbox to which the others
+// send, and the writer of the replies.
 #[derive(Drop)]
-pub struct Owner<O, M: Drop> {
+pub struct Owner<O, M: Drop, G> {
     pub(crate) core: SessionCore,
+    pub(crate) log: G,
     pub(crate) inbox: Inbox<M>,
     pub(crate) sender: ReplyWriter<O>,
 }

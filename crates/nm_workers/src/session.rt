@@ -2,8 +2,8 @@
 ghost use Rattle.std.specs.Prelude.{◌≡◌, ◌≤◌, [], All, IfOk, IfErr, vec_len, true};
 ghost use Rattle.nm_replies.specs.Sending.{device_of};
 ghost use Rattle.nm_wire.specs.Export.{size_of};
-ghost use Rattle.nm_workers.specs.Results.{IsResult};
-ghost use Rattle.nm_workers.specs.Serving.{io, Finishes, IsServed, IsBrokenOff};
+ghost use Rattle.nm_workers.specs.Results.{IsNoted};
+ghost use Rattle.nm_workers.specs.Serving.{io, left, Finishes, IsServed, IsBrokenOff};
 ghost use Rattle.nm_mailbox.specs.Ends.{pieces_by, received_by, SendsTo};
 
 use crate::dispatcher::{Dispatcher, SerialClient};
@@ -15,28 +15,46 @@ use crate::reader::Reader;
 use crate::requests::{AllServed, serve_requests};
 use crate::round::Owner;
 use crate::spin_wait::{BusyPoll, SpinToken, SpinWait, Unpolled};
-use nm_mailbox::mailbox;
+use nm_mailbox::{Inbox, PieceEnd, mailbox};
 use nm_replies::ReplyWriter;
-use nm_session::{Limit, ServeFault, Served, SessionCore, Target, laws};
-use nm_wire::Export;
+use nm_session::{Limit, ServeFault, Served, SessionCore, SessionLog, Target, laws};
 use nm_wire::sizes::MAX_PAYLOAD;
+use nm_wire::{Export, Memory};
 use std::alloc::Global;
 use std::io::{Read, Write};
 use std::marker::Brand;
 use std::sync::Wait;
 use std::thread::{self, Threads};
 
-/// A session that is over, and its writer.
+/// What the requests of a session act on.
 #[derive(Drop)]
-pub struct Finished<O> {
+pub struct Backend<T: Target> {
+    /// The targets, each of which is called for one request at a time.
+    pub targets: Vec<T>,
+    /// The session's log in their history.
+    pub log: T::Log,
+}
+
+/// A session that is over, its writer and its log.
+#[derive(Drop)]
+pub struct Finished<O, G> {
     /// How it came to its end, or the fault that broke it off.
     pub result: Result<Served, ServeFault>,
     /// What its replies were written to.
     pub sender: ReplyWriter<O>,
+    /// The log, in which its requests and their results were noted.
+    pub log: G,
 }
 
 // How many bytes a read has room for while the client haggles.
 const ROOM: usize = 128 * 1024;
+
+// The end of a session's mailbox to which pieces are sent, the one that receives, and its workers.
+type Prepared<E, T> = (
+    PieceEnd<JobResult<E, T>>,
+    Inbox<JobResult<E, T>>,
+    IdleWorkers<E, T>,
+);
 
 // What is outstanding at most: 16 requests, whatever their length.
 const LIMIT: Limit = Limit {
@@ -56,32 +74,35 @@ pub fn serve_many<R, I, O, T>(
     alloc: Global,
     reader: I,
     sender: ReplyWriter<O>,
-    targets: Vec<T>,
+    backend: Backend<T>,
     export: Export,
-) -> Finished<O>
+) -> Finished<O, T::Log>
 where
     R: Threads + Wait + Sync,
     I: Read + Send + Drop,
     O: Write + Drop,
     T: Target + Send + Drop,
-    requires some { 1 ≤ vec_len targets }
-    requires few { vec_len targets ≤ 16 }
-    requires size { All (λ target. size_of export ≤ T.size target) targets.items }
-    ensures ok { IfOk result.result (λ served. IsServed (IsResult T.follows) served export
-        (io (I.remaining reader) (O.contents (device_of sender)))
-        (O.contents (device_of result.sender))) }
-    ensures err { IfErr result.result (λ fault. IsBrokenOff (IsResult T.follows) fault export
-        (io (I.remaining reader) (O.contents (device_of sender)))
-        (O.contents (device_of result.sender))) }
+    requires some { 1 ≤ vec_len backend.targets }
+    requires few { vec_len backend.targets ≤ 16 }
+    requires size { All (λ target. size_of export ≤ T.size target) backend.targets.items }
+    ensures ok { IfOk result.result (λ served. IsServed
+        (IsNoted T.Target T.Log.SessionLog (T.Log.session backend.log)) served export
+        (io (I.remaining reader) (O.contents (device_of sender)) backend.log)
+        (left (O.contents (device_of result.sender)) result.log)) }
+    ensures err { IfErr result.result (λ fault. IsBrokenOff
+        (IsNoted T.Target T.Log.SessionLog (T.Log.session backend.log)) fault export
+        (io (I.remaining reader) (O.contents (device_of sender)) backend.log)
+        (left (O.contents (device_of result.sender)) result.log)) }
 {
     laws::so_far();
     let Ok(core) = SessionCore::new(alloc, export, LIMIT) else {
         return Finished {
             result: Err(ServeFault::Memory),
             sender,
+            log: backend.log,
         };
     };
-    serve_core(rt, alloc, core, reader, sender, targets)
+    serve_core(rt, alloc, core, reader, sender, backend)
 }
 
 // Serves the session of a new core.
@@ -91,39 +112,44 @@ fn serve_core<R, I, O, T>(
     core: SessionCore,
     reader: I,
     sender: ReplyWriter<O>,
-    targets: Vec<T>,
-) -> Finished<O>
+    backend: Backend<T>,
+) -> Finished<O, T::Log>
 where
     R: Threads + Wait + Sync,
     I: Read + Send + Drop,
     O: Write + Drop,
     T: Target + Send + Drop,
     requires idle { core.outstanding ≡ [] }
-    requires some { 1 ≤ vec_len targets }
-    requires few { vec_len targets ≤ 16 }
-    requires size { All (λ target. size_of core.haggling.export ≤ T.size target) targets.items }
-    ensures ends { Finishes (IsResult T.follows) O.contents core
-        (io (I.remaining reader) (O.contents (device_of sender))) result }
+    requires some { 1 ≤ vec_len backend.targets }
+    requires few { vec_len backend.targets ≤ 16 }
+    requires size { All (λ target. size_of core.haggling.export ≤ T.size target)
+        backend.targets.items }
+    ensures ends { Finishes (IsNoted T.Target T.Log.SessionLog (T.Log.session backend.log))
+        O.contents core (io (I.remaining reader) (O.contents (device_of sender)) backend.log)
+        result }
 {
     let (mut core, mut reader, mut sender) = (core, reader, sender);
     let Ok(mut room) = vec![in alloc; 0; ROOM] else {
         return Finished {
             result: Err(ServeFault::Memory),
             sender,
+            log: backend.log,
         };
     };
     match negotiate(rt, alloc, &mut core, &mut room, &mut reader, &mut sender) {
         Ok(None) => {
             let reader = Unpolled(reader);
-            transmit(rt, alloc, core, reader, sender, targets, &SpinToken::new())
+            transmit(rt, alloc, core, reader, sender, backend, &SpinToken::new())
         }
         Ok(Some(served)) => Finished {
             result: Ok(served),
             sender,
+            log: backend.log,
         },
         Err(fault) => Finished {
             result: Err(fault),
             sender,
+            log: backend.log,
         },
     }
 }
@@ -139,19 +165,21 @@ pub fn transmit<R, I, O, T>(
     core: SessionCore,
     reader: I,
     sender: ReplyWriter<O>,
-    targets: Vec<T>,
+    backend: Backend<T>,
     token: &SpinToken,
-) -> Finished<O>
+) -> Finished<O, T::Log>
 where
     R: Threads + Wait + Sync,
     I: BusyPoll + Send + Drop,
     O: Write + Drop,
     T: Target + Send + Drop,
-    requires size { All (λ target. size_of core.haggling.export ≤ T.size target) targets.items }
-    ensures ends { Finishes (IsResult T.follows) O.contents core
-        (io (I.remaining reader) (O.contents (device_of sender))) result }
+    requires size { All (λ target. size_of core.haggling.export ≤ T.size target)
+        backend.targets.items }
+    ensures ends { Finishes (IsNoted T.Target T.Log.SessionLog (T.Log.session backend.log))
+        O.contents core (io (I.remaining reader) (O.contents (device_of sender)) backend.log)
+        result }
 {
-    start_session::<Brand, R, I, O, T>(rt, alloc, core, reader, sender, targets, token)
+    start_session::<Brand, R, I, O, T>(rt, alloc, core, reader, sender, backend, token)
 }
 
 // Serves the requests of a session whose haggling has ended.
@@ -161,9 +189,9 @@ pub(crate) fn start_session<E, R, I, O, T>(
     core: SessionCore,
     reader: I,
     sender: ReplyWriter<O>,
-    targets: Vec<T>,
+    backend: Backend<T>,
     token: &SpinToken,
-) -> Finished<O>
+) -> Finished<O, T::Log>
 where
     E: Extent + Send,
     R: Threads + Wait + Sync,
@@ -171,25 +199,79 @@ where
     O: Write + Drop,
     T: Target + Send + Drop,
     requires size { size_of core.haggling.export ≤ E.bytes }
-    requires sizes { All (λ target. E.bytes ≤ T.size target) targets.items }
-    ensures ends { Finishes (IsResult T.follows) O.contents core
-        (io (I.remaining reader) (O.contents (device_of sender))) result }
+    requires session { T.Log.session backend.log ≡ E.session }
+    requires sizes { All (λ target. E.bytes ≤ T.size target) backend.targets.items }
+    ensures ends { Finishes (IsNoted T.Target T.Log.SessionLog E.session)
+        O.contents core (io (I.remaining reader) (O.contents (device_of sender)) backend.log)
+        result }
 {
-    let Ok((pieces, ends, inbox)) = mailbox::<JobResult<T>>(alloc, targets.len()) else {
-        return broken_off(sender);
-    };
-    let Ok(idle) = IdleWorkers::<E, T>::new(alloc, targets, ends) else {
-        return broken_off(sender);
-    };
+    let Backend { targets, log } = backend;
+    match prepare::<E, T>(alloc, targets) {
+        Ok((pieces, inbox, idle)) => {
+            let owner = Owner {
+                core,
+                log,
+                inbox,
+                sender,
+            };
+            run_scoped(rt, alloc, owner, idle, Reader::new(reader, pieces), token)
+        }
+        Err(_) => broken_off(sender, log),
+    }
+}
+
+// The two ends of a session's mailbox, and a worker for each of its targets.
+fn prepare<E: Extent, T: Target + Drop>(
+    alloc: Global,
+    targets: Vec<T>,
+) -> Result<Prepared<E, T>, Memory>
+    requires sizes { All (λ target. E.bytes ≤ T.size target) targets.items }
+    ensures fresh { IfOk result (λ made.
+        (pieces_by made.0 ≡ []) × (received_by made.1 ≡ []) × SendsTo made.0 made.1) }
+{
+    let (pieces, ends, inbox) = mailbox::<JobResult<E, T>>(alloc, targets.len())?;
+    let idle = IdleWorkers::<E, T>::new(alloc, targets, ends)?;
+    Ok((pieces, inbox, idle))
+}
+
+// Has the owner of the session's core serve it, with threads that end before it does.
+fn run_scoped<E, R, I, O, T>(
+    rt: &R,
+    alloc: Global,
+    owner: Owner<O, JobResult<E, T>, T::Log>,
+    idle: IdleWorkers<E, T>,
+    reader: Reader<I, JobResult<E, T>>,
+    token: &SpinToken,
+) -> Finished<O, T::Log>
+where
+    E: Extent + Send,
+    R: Threads + Wait + Sync,
+    I: BusyPoll + Send + Drop,
+    O: Write + Drop,
+    T: Target + Send + Drop,
+    requires size { size_of owner.core.haggling.export ≤ E.bytes }
+    requires session { T.Log.session owner.log ≡ E.session }
+    requires fresh { (pieces_by reader.pieces ≡ []) × (received_by owner.inbox ≡ []) }
+    requires is_open { reader.is_open ≡ true }
+    requires channel { SendsTo reader.pieces owner.inbox }
+    ensures ends { Finishes (IsNoted T.Target T.Log.SessionLog E.session)
+        O.contents owner.core
+        (io (I.remaining reader.source) (O.contents (device_of owner.sender)) owner.log)
+        result }
+{
     thread::scope(
         thread::scope_env(),
         rt,
-        move |scope| -> Finished<O>
-            requires size { size_of core.haggling.export ≤ E.bytes }
-            requires fresh { (pieces_by pieces ≡ []) × (received_by inbox ≡ []) }
-            requires channel { SendsTo pieces inbox }
-            ensures ends { Finishes (IsResult T.follows) O.contents core
-                (io (I.remaining reader) (O.contents (device_of sender))) result }
+        move |scope| -> Finished<O, T::Log>
+            requires size { size_of owner.core.haggling.export ≤ E.bytes }
+            requires session { T.Log.session owner.log ≡ E.session }
+            requires fresh { (pieces_by reader.pieces ≡ []) × (received_by owner.inbox ≡ []) }
+            requires is_open { reader.is_open ≡ true }
+            requires channel { SendsTo reader.pieces owner.inbox }
+            ensures ends { Finishes (IsNoted T.Target T.Log.SessionLog E.session)
+                O.contents owner.core
+                (io (I.remaining reader.source) (O.contents (device_of owner.sender)) owner.log)
+                result }
         {
             let dispatcher = Dispatcher {
                 pool: WorkerPool::new(scope, idle),
@@ -197,24 +279,21 @@ where
                 spin_wait: SpinWait::new(token),
                 client: SerialClient::new(),
             };
-            let owner = Owner {
-                core,
-                inbox,
-                sender,
-            };
-            run_session(rt, alloc, owner, dispatcher, Reader::new(reader, pieces))
+            run_session(rt, alloc, owner, dispatcher, reader)
         },
     )
 }
 
 // A session for which there is no memory, or no thread.
-fn broken_off<O>(sender: ReplyWriter<O>) -> Finished<O>
+fn broken_off<O, G>(sender: ReplyWriter<O>, log: G) -> Finished<O, G>
     ensures result { result.result ≡ Err ServeFault.Memory }
     ensures sender { result.sender ≡ sender }
+    ensures log { result.log ≡ log }
 {
     Finished {
         result: Err(ServeFault::Memory),
         sender,
+        log,
     }
 }
 
@@ -222,10 +301,10 @@ fn broken_off<O>(sender: ReplyWriter<O>) -> Finished<O>
 fn run_session<'s, S, E, R, I, O, T>(
     rt: &'s R,
     alloc: Global,
-    owner: Owner<O, JobResult<T>>,
+    owner: Owner<O, JobResult<E, T>, T::Log>,
     dispatcher: Dispatcher<'_, WorkerPool<'_, 's, S, E, T>>,
-    reader: Reader<I, JobResult<T>>,
-) -> Finished<O>
+    reader: Reader<I, JobResult<E, T>>,
+) -> Finished<O, T::Log>
 where
     E: Extent + Send + 's,
     R: Threads + Wait + Sync + 's,
@@ -233,19 +312,27 @@ where
     O: Write + Drop,
     T: Target + Send + Drop + 's,
     requires size { size_of owner.core.haggling.export ≤ E.bytes }
+    requires session { T.Log.session owner.log ≡ E.session }
     requires fresh { (pieces_by reader.pieces ≡ []) × (received_by owner.inbox ≡ []) }
     requires is_open { reader.is_open ≡ true }
     requires channel { SendsTo reader.pieces owner.inbox }
-    ensures ends { Finishes (IsResult T.follows) O.contents owner.core
-        (io (I.remaining reader.source) (O.contents (device_of owner.sender))) result }
+    ensures ends { Finishes (IsNoted T.Target T.Log.SessionLog E.session)
+        O.contents owner.core
+        (io (I.remaining reader.source) (O.contents (device_of owner.sender)) owner.log)
+        result }
 {
     let mut owner = owner;
     let AllServed { result, reader } = serve_requests(rt, alloc, &mut owner, dispatcher, reader);
     let Owner {
         core: _,
+        log,
         mut inbox,
         sender,
     } = owner;
     reader.pieces.settle(&mut inbox);
-    Finished { result, sender }
+    Finished {
+        result,
+        sender,
+        log,
+    }
 }

@@ -16,7 +16,7 @@ use std::sync::Wait;
 #[derive(Drop)]
 pub struct Worker<E: Extent, T: Target> {
     target: T,
-    outcomes: OutcomeEnd<JobResult<T>>,
+    outcomes: OutcomeEnd<JobResult<E, T>>,
     of: PhantomData<E>,
     ghost size: { E.bytes ≤ T.size target },
 }
@@ -30,7 +30,7 @@ pub struct Worked<E: Extent, T: Target> {
 
 impl<E: Extent, T: Target> Worker<E, T> {
     // The worker of this target.
-    pub(crate) fn new(target: T, outcomes: OutcomeEnd<JobResult<T>>) -> Worker<E, T>
+    pub(crate) fn new(target: T, outcomes: OutcomeEnd<JobResult<E, T>>) -> Worker<E, T>
         requires { E.bytes ≤ T.size target }
         ensures target { result.target ≡ target }
         ensures outcomes { result.outcomes ≡ outcomes }
@@ -43,7 +43,7 @@ impl<E: Extent, T: Target> Worker<E, T> {
     }
 
     // Calls the target for a job, and for nothing else.
-    pub(crate) fn do_job(self, alloc: Global, job: Job<E>) -> (JobResult<T>, Worker<E, T>)
+    pub(crate) fn do_job(self, alloc: Global, job: Job<E, T>) -> (JobResult<E, T>, Worker<E, T>)
         ensures index { result.0.index ≡ job.index }
         ensures task { result.0.task ≡ job.task }
         ensures calls { Calls job.task job.payload result.0.outcome
@@ -60,7 +60,7 @@ impl<E: Extent, T: Target> Worker<E, T> {
     }
 
     // Reports the result of a job. False where nobody hears of it.
-    fn report<R: Wait>(&mut self, rt: &R, done: JobResult<T>) -> bool
+    fn report<R: Wait>(&mut self, rt: &R, done: JobResult<E, T>) -> bool
         ensures target { self.new.target ≡ self.old.target }
         ensures heard { result ≡ true
             → outcomes_by self.new.outcomes ≡ outcomes_by self.old.outcomes ++ done ∷ [] }
@@ -77,7 +77,7 @@ pub(crate) fn work<R: Wait, E: Extent, T: Target + Drop>(
     rt: &R,
     alloc: Global,
     worker: Worker<E, T>,
-    jobs: Receiver<Job<E>>,
+    jobs: Receiver<Job<E, T>>,
 ) -> Worked<E, T>
     ensures { WorksFor T.follows worker.target result.worker.target result.heard
         (outcomes_by worker.outcomes) (outcomes_by result.worker.outcomes) }

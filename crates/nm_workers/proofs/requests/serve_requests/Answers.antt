@@ -4,7 +4,8 @@ use Rattle.nm_session.specs.declared.serve_fault.ServeFault.TheVariants as fault
 use Rattle.nm_workers.specs.declared.round.Round.TheVariants as round
 use Rattle.nm_workers.specs.Moving.{state_of, Leads}
 use Rattle.nm_workers.specs.Reading.{reader_of}
-use Rattle.nm_workers.specs.Results.{IsResult}
+use Rattle.nm_workers.specs.Results.{IsNoted, moment}
+use Rattle.nm_workers.proofs.Arrivals.{session_stays}
 use Rattle.nm_workers.proofs.ReadPieces.{more_on}
 use Rattle.nm_workers.proofs.RequestLemmas.{size_stays}
 use Rattle.nm_workers.proofs.ResultRuns.{runs_of}
@@ -23,14 +24,22 @@ rounds-init g c = record {
 pub one_round-requires-clause-size : goal.one_round-requires-clause-size
 one_round-requires-clause-size g c κs within =
     size_stays c.args.owner.now.core c.rounds.owner.core c.rounds.invariant.moves.events g.E.Extent.bytes
-    (runs_of _ _ _ _ c.rounds.invariant.moves.runs) c.requires.size
+    (runs_of (IsNoted g.T.Target g.T.Log.SessionLog g.E.Extent.session)
+    (moment c.args.owner.now.core c.args.owner.now.log) (moment c.rounds.owner.core c.rounds.owner.log)
+    c.rounds.invariant.moves.events c.rounds.invariant.moves.runs) c.requires.size
+
+pub one_round-requires-clause-session : goal.one_round-requires-clause-session
+one_round-requires-clause-session g c κs within =
+    session_stays g.T.Target g.T.Log.SessionLog g.E.Extent.session c.rounds.invariant.moves.events
+    (moment c.args.owner.now.core c.args.owner.now.log) (moment c.rounds.owner.core c.rounds.owner.log)
+    c.rounds.invariant.moves.runs ∙ c.requires.session
 
 pub rounds-preserved-in-Ok-Continue : goal.rounds-preserved-in-Ok-Continue
 rounds-preserved-in-Ok-Continue g c =
     let start = state_of g.O.Write.contents c.args.owner.now in
     let here = state_of g.O.Write.contents c.rounds.owner in
     let there = state_of g.O.Write.contents c.one_round.new.owner in
-    let led : Leads (IsResult g.T.Target.follows) g.O.Write.contents (Ok (round.Continue c.in-Ok-Continue.next))
+    let led : Leads (IsNoted g.T.Target g.T.Log.SessionLog g.E.Extent.session) g.O.Write.contents (Ok (round.Continue c.in-Ok-Continue.next))
     c.rounds.owner c.one_round.new.owner = rw c.in-Ok-Continue.field-0-is at c.in-Ok-Continue.ensures.leads in
     record {
       moves = moves_on start here there c.rounds.invariant.moves led.0;
@@ -45,7 +54,7 @@ rounds-preserved g c =
     let start = state_of g.O.Write.contents c.args.owner.now in
     let here = state_of g.O.Write.contents c.rounds.owner in
     let there = state_of g.O.Write.contents c.one_round.new.owner in
-    let led : Leads (IsResult g.T.Target.follows) g.O.Write.contents (Ok (round.SwitchReader c.in-Ok-SwitchReader.next))
+    let led : Leads (IsNoted g.T.Target g.T.Log.SessionLog g.E.Extent.session) g.O.Write.contents (Ok (round.SwitchReader c.in-Ok-SwitchReader.next))
     c.rounds.owner c.one_round.new.owner = rw c.in-Ok-SwitchReader.field-0-is at c.in-Ok-SwitchReader.ensures.leads in
     record {
       moves = moves_on start here there c.rounds.invariant.moves led.0;
@@ -61,7 +70,7 @@ returns-in-Err-switch_reader-clause-ends g c =
     let start = state_of g.O.Write.contents c.args.owner.now in
     let here = state_of g.O.Write.contents c.rounds.owner in
     let there = state_of g.O.Write.contents c.one_round.new.owner in
-    let led : Leads (IsResult g.T.Target.follows) g.O.Write.contents (Ok (round.SwitchReader c.in-Ok-SwitchReader.next))
+    let led : Leads (IsNoted g.T.Target g.T.Log.SessionLog g.E.Extent.session) g.O.Write.contents (Ok (round.SwitchReader c.in-Ok-SwitchReader.next))
     c.rounds.owner c.one_round.new.owner = rw c.in-Ok-SwitchReader.field-0-is at c.in-Ok-SwitchReader.ensures.leads in
     stops fault.Memory tt _ _ (moves_on start here there c.rounds.invariant.moves led.0)
 
@@ -76,7 +85,7 @@ returns-in-Ok-Done-clause-ends g c =
     let start = state_of g.O.Write.contents c.args.owner.now in
     let here = state_of g.O.Write.contents c.rounds.owner in
     let there = state_of g.O.Write.contents c.one_round.new.owner in
-    let led : Leads (IsResult g.T.Target.follows) g.O.Write.contents (Ok (round.Done c.in-Ok-Done.served))
+    let led : Leads (IsNoted g.T.Target g.T.Log.SessionLog g.E.Extent.session) g.O.Write.contents (Ok (round.Done c.in-Ok-Done.served))
     c.rounds.owner c.one_round.new.owner = rw c.in-Ok-Done.field-0-is at c.in-Ok-Done.ensures.leads in
     rw c.finish.ensures.end (attends_on c.in-Ok-Done.served start here there c.rounds.invariant.moves led)
 
