@@ -1,5 +1,5 @@
 //! What a session's requests act on: a mirror, through a pass.
-ghost use Rattle.std.specs.Prelude.{◌≡◌, ◌*◌, ◌↔◌, [], ◌∷◌, length, IsSome, IfSome};
+ghost use Rattle.std.specs.Prelude.{◌≡◌, ◌*◌, ◌↔◌, [], ◌∷◌, length, ⊤, IsSome, IfSome};
 ghost use Rattle.nm_leg.specs.Leg.{leg_type};
 ghost use Rattle.nm_server.specs.Calls.{IsEven, IsInside, Leads, answered, leads-nowhere};
 ghost use Rattle.nm_server.specs.Calls.{leads-on, state_of};
@@ -73,11 +73,19 @@ impl<'a, L: LegPart, J: Naming, C: MirrorCalls<L, J> + Drop, H> MirrorTarget<'a,
 
 impl<'a, L: LegPart, J: Naming, C: MirrorCalls<L, J> + Drop, H> Target
     for MirrorTarget<'a, L, J, C, H> {
+    type Told = ();
+
+    type Log = ();
+
     ghost size = { λ target. 512 * (C.shape target.mirror.now).blocks };
 
     ghost follows = { λ old calls new. Leads (leg_type L.model L.honest)
         (state_of (C.shape old.mirror.now) old.pass.now) calls
         (state_of (C.shape new.mirror.now) new.pass.now) };
+
+    ghost has_heard = { λ _ _. ⊤ };
+
+    ghost has_told = { λ _ _. ⊤ };
 
     ghost stays = { λ target.
         leads-nowhere (leg_type L.model L.honest)
@@ -107,4 +115,8 @@ impl<'a, L: LegPart, J: Naming, C: MirrorCalls<L, J> + Drop, H> Target
     fn sync_touched(&mut self, offset: u64, length: u64) -> Result<(), TargetFault> {
         self.call(MirrorCall::Sync(offset, length), &mut [])
     }
+
+    fn hear(&mut self, _told: ()) {}
+
+    fn tell(&mut self) {}
 }

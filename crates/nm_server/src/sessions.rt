@@ -20,7 +20,7 @@ use nm_replies::ReplyWriter;
 use nm_reports::Incident;
 use nm_session::{Limit, ServeFault, Served, SessionCore};
 use nm_wire::{Export, Name};
-use nm_workers::{negotiate, transmit};
+use nm_workers::{Backend, negotiate, transmit};
 use std::alloc::Global;
 use std::cell::Cell;
 use std::net::Shutdown;
@@ -190,11 +190,14 @@ where
     R: Threads + Wait + Sync,
     requires size { size_of core.haggling.export ≤ 512 * (C.shape mirror.now).blocks }
 {
-    let targets = targets_of(alloc, mirror, passes, client)?;
+    let backend = Backend {
+        targets: targets_of(alloc, mirror, passes, client)?,
+        log: (),
+    };
     let reader = ClientReader::new(client, places.is_over());
     let sender = ReplyWriter::new(ClientWriter::new(client));
     let lookout = places.lookout();
-    transmit(rt, alloc, core, reader, sender, targets, lookout).result
+    transmit(rt, alloc, core, reader, sender, backend, lookout).result
 }
 
 // The core of a session that has not begun, with the export of a mirror of so many blocks.
