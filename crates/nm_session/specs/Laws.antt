@@ -1,5 +1,5 @@
 -- What the definitions say of whole sessions.
-use Rattle.std.specs.Prelude.{ℕ, List, [], ◌∷◌, ◌++◌}
+use Rattle.std.specs.Prelude.{◌≡◌, ℕ, List, [], ◌∷◌, ◌++◌}
 use Rattle.nm_wire.specs.declared.export.Export.{Export}
 use Rattle.nm_session.specs.declared.limit.Limit.{Limit}
 use Rattle.nm_session.specs.declared.outcome.Outcome.{Outcome}
@@ -17,13 +17,13 @@ SoFar =
     → Runs (session_of export limit) events new
     → GoesOut export limit events (taken_bytes events ++ new.out)
 
--- no request is answered twice
+-- from where no request is outstanding on, as in a new session, no request is answered twice
 abbrev pub AnsweredOnce : Type 0
 AnsweredOnce =
-    (export : Export) (limit : Limit) (index : ℕ) (before between after : List Event)
-    (outcome other : Outcome) (new : Session)
-    → Runs (session_of export limit)
-    (before ++ Answered index outcome ∷ (between ++ Answered index other ∷ after)) new → ⊥
+    (old : Session) (index : ℕ) (before between after : List Event)
+    (outcome other : Outcome) (new : Session) → old.outstanding ≡ []
+    → Runs old (before ++ Answered index outcome ∷ (between ++ Answered index other ∷ after)) new
+    → ⊥
 
 -- requests are read, or a header that ends the stream is found, and nothing else happens
 abbrev pub AreReadings : List Event → Type 0

@@ -11,7 +11,7 @@ pub fn so_far()
     nm_haggle::laws::ends_there();
 }
 
-/// No request is answered twice.
+/// From where no request is outstanding on, as in a new session, none is answered twice.
 pub fn answered_once()
     ensures { AnsweredOnce }
 {}

@@ -11,3 +11,4 @@ pub mod Owning
 pub mod Working
 pub mod JobCalls
 pub mod Rooms
+pub mod Coming

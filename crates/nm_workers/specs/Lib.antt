@@ -6,3 +6,4 @@ pub mod Moving
 pub mod Reading
 pub mod Serving
 pub mod Working
+pub mod Laws

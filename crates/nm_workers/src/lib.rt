@@ -11,6 +11,7 @@ pub use spin_wait::{BusyPoll, SpinToken};
 
 mod dispatcher;
 mod job;
+pub mod laws;
 mod messages;
 mod negotiation;
 mod permits;

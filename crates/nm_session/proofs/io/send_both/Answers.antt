@@ -1,5 +1,5 @@
 -- What went out of the second chunk went out behind the first one.
-use Rattle.std.proofs.Common.{◌≡◌, ◌+◌, ℕ, Err, length, ap, arith}
+use Rattle.std.proofs.Common.{◌≡◌, ◌+◌, Err, length, ap, arith}
 use Rattle.std.proofs.lemmas.Result.{err_from_is_err_and}
 use Rattle.nm_session.proofs.Following.{sends_of_first, sends_behind}
 use Rattle.nm_session.proofs.io.send_both.Goals as goal

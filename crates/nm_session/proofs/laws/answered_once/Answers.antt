@@ -1,7 +1,9 @@
-use Rattle.nm_session.specs.Session.{session_of}
-use Rattle.nm_session.proofs.Once.{once}
+use Rattle.std.proofs.Common.{List, sym, subst}
+use Rattle.nm_session.specs.declared.outstanding.Outstanding.{Outstanding}
+use Rattle.nm_session.proofs.Once.{IsOrdered, once}
 use Rattle.nm_session.proofs.laws.answered_once.Goals as goal
 
 pub returns : goal.returns
-returns c export limit index before between after outcome other new runs =
-    once before between after index outcome other (session_of export limit) new (tt, tt) runs
+returns c old index before between after outcome other new none runs =
+    once before between after index outcome other old new
+    (subst (λ (xs : List Outstanding). IsOrdered old.count xs) (sym none) (tt, tt)) runs
