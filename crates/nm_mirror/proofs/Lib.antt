@@ -8,6 +8,7 @@ mod HeldLemmas
 mod HeldSame
 mod JointLemmas
 mod ListLemmas
+mod LookLemmas
 mod MarkedLemmas
 mod NotedLemmas
 mod NumberLemmas

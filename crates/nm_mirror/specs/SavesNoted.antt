@@ -1,18 +1,21 @@
 -- What a pass notes of a save, as it begins, ends or fails in each stripe.
-use Rattle.std.specs.Prelude.{◌≡◌, ℕ, is_some}
+use Rattle.std.specs.Prelude.{◌≡◌, ℕ, [], ◌∷◌, None, IsSome}
 use Rattle.nm_book.specs.Log.{PassView}
 use Rattle.nm_gate.specs.declared.gated_stripe.GatedStripe.{GatedStripe}
 use Rattle.nm_history.specs.declared.transition.Move.TheVariants.{Saves}
 use Rattle.nm_history.specs.declared.transition.Noted.{Noted}
 use Rattle.nm_leg.specs.Leg.{LegType}
 use Rattle.nm_mirror.specs.Counted.{CountsEach}
-use Rattle.nm_mirror.specs.Trail.{NotesMoves, noted_if}
+use Rattle.nm_mirror.specs.Status.{LooksAt}
+use Rattle.nm_mirror.specs.Trail.{NotesMoves}
 
--- the pass notes just this one, where there is a superblock
-abbrev pub NotesSave : {L : Type 0} → LegType L → GatedStripe L
-    → (old new : PassView (Noted L)) → Type 0
-NotesSave type to old new = NotesMoves type to.stripe.place.stripe
-    (noted_if (is_some to.durable) (record { made = Saves; to = to })) old new
+-- The pass notes just this one. Where there is no superblock nothing is to be noted: the pass looks
+-- at the log, which leads to this stripe.
+pub record NotesSave {L : Type 0} (type : LegType L) (to : GatedStripe L)
+    (old new : PassView (Noted L)) : Type 0 where
+  pub saved : IsSome to.durable → NotesMoves type to.stripe.place.stripe
+      (record { made = Saves; to = to } ∷ []) old new
+  pub unsaved : to.durable ≡ None → LooksAt type to old new
 
 -- in a hold of the stripe of this number its gate changed so, and the pass notes it
 pub record SavesIn {L : Type 0} (type : LegType L) (so : (old new : GatedStripe L) → Type 0)

@@ -57,6 +57,12 @@ pub record OnlySees {L : Type 0} (old new : PassView (Noted L)) : Type 0 where
   pub mine : new.mine ≡ old.mine
   pub goes_on : IsPrefix old.seen new.seen
 
+-- the pass only looked, and there the log led to this stripe
+pub record LooksAt {L : Type 0} (type : LegType L) (now : GatedStripe L)
+    (old new : PassView (Noted L)) : Type 0 where
+  pub sees : SeesStripe type now.stripe.place.stripe old new now
+  pub only : OnlySees old new
+
 -- this is told of the stripe to which the log led
 pub record TellsAt {L : Type 0} (type : LegType L) (old new : PassView (Noted L)) (number : ℕ)
     (told : StripeStatus) : Type 0 where

@@ -289,7 +289,7 @@ impl<L: LegPart, J: Naming> Trail<L, J> {
         }
     }
 
-    /// Notes that a save begins, ends or fails, where there is a superblock.
+    /// Notes that a save begins, ends or fails, where there is a superblock, and else looks.
     pub(crate) fn note_save(&mut self, pass: &mut LogPass<L, J>, to: &GatedStripe<L>)
         requires { (from : GatedStripe L) × (self.old ≡ Some from)
             × (to.now.stripe ≡ from.stripe)
@@ -299,6 +299,8 @@ impl<L: LegPart, J: Naming> Trail<L, J> {
     {
         if to.durable.is_some() {
             self.note_made::<Saving, _>(pass, to, &());
+        } else {
+            self.look(pass);
         }
     }
 }
