@@ -29,4 +29,5 @@ mod SessionLemmas
 mod StatusLemmas
 mod StepsTold
 mod TakingLemmas
+mod TakingNotes
 mod TrailLemmas

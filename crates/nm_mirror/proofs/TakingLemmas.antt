@@ -9,12 +9,7 @@ use Rattle.nm_gate.specs.declared.gated_stripe.GatedStripe.{GatedStripe}
 use Rattle.nm_gate.specs.declared.leg_claims.LegClaims.{LegClaims}
 use Rattle.nm_mirror.specs.Replacing.{called_whole}
 use Rattle.nm_mirror.specs.Saves.{IsJoined}
-use Rattle.nm_book.specs.Log.{PassView}
-use Rattle.nm_history.specs.declared.transition.Noted.{Noted}
-use Rattle.nm_leg.specs.Leg.{LegType}
-use Rattle.nm_mirror.specs.Counted.{OneMore, Start}
-use Rattle.nm_mirror.specs.Saving.{AreAmong, BeginsAt, BeginsSo, IsTaken, Takes, claims_in}
-use Rattle.nm_mirror.specs.SavesNoted.{NotesSave, SavesEach}
+use Rattle.nm_mirror.specs.Saving.{AreAmong, IsTaken, Takes, claims_in}
 use Rattle.nm_mirror.specs.Settling.{is_at_work}
 use Rattle.nm_mirror.specs.declared.save_taking.Taken.{Taken}
 use Rattle.nm_mirror.proofs.SaveLemmas.{last-or-before, marks-among}
@@ -153,13 +148,3 @@ takes held whole marks number one claims old new are few joined at is called wri
           ∙ ap (set old.claims held.stripe.place.stripe) (called ∙ ap (λ (cs : LegClaims). called_whole cs whole) is);
       out = kept;
     }
-
--- no stripe yet
-pub saves_none : {L : Type 0} (type : LegType L) (so : (old new : GatedStripe L) → Type 0) (pass : PassView (Noted L)) → SavesEach type so 0 pass pass
-saves_none type so pass = Start
-
--- one more began
-pub saves_more : {L : Type 0} (type : LegType L) (count : ℕ) (marked : List Bool) (held now : GatedStripe L) (first old new : PassView (Noted L)) → SavesEach type BeginsSo count first old
-    → held.stripe.place.stripe ≡ count → BeginsAt marked held now → NotesSave type now old new → SavesEach type BeginsSo (count + 1) first new
-saves_more type count marked held now first old new before number begins notes =
-    OneMore count old new before (record { held = (held, now); number_is = number; so_is = (marked, begins); notes = notes })

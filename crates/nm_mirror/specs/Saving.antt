@@ -47,10 +47,6 @@ pub record BeginsAt {L : Type 0} (marked : List Bool) (old new : GatedStripe L) 
   pub widened : IfSome old.durable (λ d.
       new.durable ≡ Some (widened (claims_of old.stripe d marked) d))
 
--- so it began, with some marks
-abbrev pub BeginsSo : {L : Type 0} → (old new : GatedStripe L) → Type 0
-BeginsSo old new = (marked : List Bool) × BeginsAt marked old new
-
 -- The order says of the stripe of this number what one hold of it claimed: by marks that have each
 -- that the stripe had and are among the spans, but for the legs that are to be whole. A leg that
 -- the order has as out was not at work in that hold.

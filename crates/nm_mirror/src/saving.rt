@@ -1,9 +1,9 @@
 //! Saves: what the next superblock says is taken from the stripes, and they are told once it is
 //! durable.
-ghost use Rattle.std.specs.Prelude.{◌≡◌, ◌<◌};
+ghost use Rattle.std.specs.Prelude.{◌≡◌, ◌<◌, Bool, List};
 ghost use Rattle.nm_leg.specs.Leg.{leg_type};
-ghost use Rattle.nm_mirror.specs.Saving.{AreAmong, BeginsSo, EndsAt, FailsAt, IsTaken, taken_for};
-ghost use Rattle.nm_mirror.specs.SavesNoted.{SavesEach, SavesIn};
+ghost use Rattle.nm_mirror.specs.Saving.{AreAmong, EndsAt, FailsAt, IsTaken, taken_for};
+ghost use Rattle.nm_mirror.specs.SavesNoted.{SavesEach, SavesIn, TakesEach};
 
 use crate::bounds::within_bounds;
 use crate::mirror::Mirror;
@@ -87,7 +87,7 @@ impl<L: LegPart, G: Gate + Drop, J: Naming> Mirror<L, G, J> {
     }
 
     /// Takes from each stripe what the next superblock says of it, with these spans.
-    #[tactic(auto, using(crate::proofs::TakingLemmas::none_taken, crate::proofs::TakingLemmas::none_long, crate::proofs::TakingLemmas::take_more, crate::proofs::TakingLemmas::take_long, crate::proofs::TakingLemmas::take_among, crate::proofs::TakingLemmas::among_same, crate::proofs::TakingLemmas::saves_none, crate::proofs::TakingLemmas::saves_more))]
+    #[tactic(auto, using(crate::proofs::TakingLemmas::none_taken, crate::proofs::TakingLemmas::none_long, crate::proofs::TakingLemmas::take_more, crate::proofs::TakingLemmas::take_long, crate::proofs::TakingLemmas::take_among, crate::proofs::TakingLemmas::among_same, crate::proofs::TakingNotes::takes_none, crate::proofs::TakingNotes::takes_more))]
     fn take_all<R: Wait>(
         &self,
         rt: &R,
@@ -97,8 +97,8 @@ impl<L: LegPart, G: Gate + Drop, J: Naming> Mirror<L, G, J> {
     ) -> Taken
         ensures taken { IsTaken L self.now.shape.stripes whole.now result }
         ensures wanted { AreAmong spans result.spans }
-        ensures notes { SavesEach (leg_type L.model L.honest) BeginsSo self.now.shape.stripes
-            pass.old pass.new }
+        ensures notes { TakesEach (leg_type L.model L.honest) whole.now self.now.shape.stripes
+            spans pass.old (result, pass.new) }
     {
         within_bounds(&self.shape);
         let mut taken = Taken::new(spans);
@@ -115,8 +115,8 @@ impl<L: LegPart, G: Gate + Drop, J: Naming> Mirror<L, G, J> {
         ensures taken { IsTaken L self.now.shape.stripes result.whole (taken_for result) }
         ensures whole { result.whole ≡ wanted.whole }
         ensures wanted { AreAmong wanted.spans result.spans }
-        ensures notes { SavesEach (leg_type L.model L.honest) BeginsSo self.now.shape.stripes
-            pass.old pass.new }
+        ensures notes { (spans : List Bool) × TakesEach (leg_type L.model L.honest) result.whole
+            self.now.shape.stripes spans pass.old (taken_for result, pass.new) }
     {
         let Wanted { mut spans, whole } = wanted;
         self.join_all_marks(rt, &mut spans);
@@ -125,11 +125,11 @@ impl<L: LegPart, G: Gate + Drop, J: Naming> Mirror<L, G, J> {
 
     /// Begins a save: what the next superblock says of each stripe. It marks all spans that a
     /// stripe has marked, and those that are wanted. A leg that is to be replaced is partial
-    /// nowhere. This pass notes it of each stripe.
+    /// nowhere. This pass notes it of each stripe, in the hold in which the order is taken from it.
     pub fn begin_save<R: Wait>(&self, rt: &R, pass: &mut LogPass<L, J>) -> SaveOrder
         ensures taken { IsTaken L self.now.shape.stripes result.whole (taken_for result) }
-        ensures notes { SavesEach (leg_type L.model L.honest) BeginsSo self.now.shape.stripes
-            pass.old pass.new }
+        ensures notes { (spans : List Bool) × TakesEach (leg_type L.model L.honest) result.whole
+            self.now.shape.stripes spans pass.old (taken_for result, pass.new) }
     {
         let wanted = self.wanted_to_save(rt);
         self.order_of(rt, pass, wanted)

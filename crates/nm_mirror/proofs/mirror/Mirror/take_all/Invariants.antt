@@ -1,8 +1,8 @@
 -- The stripes so far are taken and noted, and the spans have each that was wanted.
 use Rattle.std.proofs.Common.{◌≡◌, length}
 use Rattle.nm_leg.specs.Leg.{leg_type}
-use Rattle.nm_mirror.specs.Saving.{AreAmong, BeginsSo, IsTaken}
-use Rattle.nm_mirror.specs.SavesNoted.{SavesEach}
+use Rattle.nm_mirror.specs.Saving.{AreAmong, IsTaken}
+use Rattle.nm_mirror.specs.SavesNoted.{TakesEach}
 use Rattle.nm_mirror.proofs.mirror.Mirror.take_all.Given as goal
 
 abbrev pub invariant-stripes : goal.invariant-stripes
@@ -10,4 +10,4 @@ invariant-stripes g l =
     IsTaken g.row.L.Denot l.stripe l.whole l.taken
     × AreAmong l.fn.spans l.taken.spans
     × (length l.taken.claims ≡ 64)
-    × SavesEach (leg_type g.L.LegPart.model g.L.LegPart.honest) BeginsSo l.stripe l.fn.pass l.pass
+    × TakesEach (leg_type g.L.LegPart.model g.L.LegPart.honest) l.whole l.stripe l.fn.spans l.fn.pass (l.taken, l.pass)
