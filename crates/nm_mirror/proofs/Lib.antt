@@ -2,6 +2,7 @@ mod AttachLemmas
 mod ClaimingLemmas
 mod CountedLemmas
 mod EndingLemmas
+mod FailNotes
 mod GlanceLemmas
 mod HearingLemmas
 mod HeldLemmas

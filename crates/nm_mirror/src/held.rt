@@ -47,6 +47,7 @@ impl<L: LegPart, J: Naming> Held<L, J> {
     ghost use Rattle.nm_history.specs.Notes.{transitions};
     ghost use Rattle.nm_mirror.specs.Asks.{LetsPass};
     ghost use Rattle.nm_mirror.specs.Ending.{end_of_held};
+    ghost use Rattle.nm_mirror.specs.Holding.{with_gated};
     ghost use Rattle.nm_mirror.specs.Reopening.{GoesOn, NamesAtMost, Reopens};
     ghost use Rattle.nm_mirror.specs.Reopening.{no_past};
     ghost use Rattle.nm_mirror.specs.Status.{OnlySees, SeesStripe};
@@ -91,6 +92,7 @@ impl<L: LegPart, J: Naming> Held<L, J> {
             self.old.gated.stripe.place.stripe pass.old pass.new self.old.gated }
         ensures only { OnlySees pass.old pass.new }
         ensures stays { self.new.gated ≡ self.old.gated }
+        ensures others { self.new ≡ with_gated self.new.gated self.old }
     {
         self.trail.look(pass);
     }

@@ -45,7 +45,7 @@ fn fail_in<L: LegPart, J: Naming>(
     }
 }
 
-/// The same in a stripe that may have no such leg, which it tells as out.
+/// The same in a stripe that may have no such leg, which it tells as out: then the pass looks.
 fn fail_if_there<L: LegPart, J: Naming>(
     held: &mut Held<L, J>,
     pass: &mut LogPass<L, J>,
@@ -67,8 +67,10 @@ fn fail_if_there<L: LegPart, J: Naming>(
         fail_in(held, pass, leg, counts);
     } else if held.gated.stripe.is_stopped() {
         counts.stopped += 1;
+        held.look(pass);
     } else {
         counts.out += 1;
+        held.look(pass);
     }
 }
 

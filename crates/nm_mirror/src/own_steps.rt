@@ -11,7 +11,7 @@ ghost use Rattle.nm_history.specs.Telling.{answer_of_return};
 ghost use Rattle.nm_leg.specs.Leg.{leg_type};
 ghost use Rattle.nm_mirror.specs.Asks.{LetsPass};
 ghost use Rattle.nm_mirror.specs.Holding.{with_gated, with_stripe};
-ghost use Rattle.nm_mirror.specs.OwnNotes.{NotesReplace, NotesStep, answer_of_fail};
+ghost use Rattle.nm_mirror.specs.OwnNotes.{NotesFail, NotesReplace, NotesStep, answer_of_fail};
 ghost use Rattle.nm_mirror.specs.Saving.{BeginsAt, EndsAt, FailsAt, claims_in};
 ghost use Rattle.nm_mirror.specs.SavesNoted.{NotesSave};
 ghost use Rattle.nm_mirror.specs.declared.ask.Ask.TheVariants as ask;
@@ -134,6 +134,8 @@ impl<L: LegPart, J: Naming> Held<L, J> {
         ensures others { self.new ≡ with_stripe self.new.gated.stripe self.old }
         ensures notes { NotesStep (leg_type L.model L.honest) (step.Fail leg)
             (answer_of_fail result) (self.old.gated, self.new.gated) pass.old pass.new }
+        ensures fails { NotesFail (leg_type L.model L.honest) leg
+            (self.old.gated, self.new.gated) pass.old pass.new }
     {
         let failing = self.gated.stripe.fail(leg);
         self.trail

@@ -1,10 +1,14 @@
 -- A leg's taking out passes every gate.
+use Rattle.std.proofs.Common.{[], ◌∷◌}
+use Rattle.nm_history.specs.declared.transition.Move.TheVariants.{Does}
 use Rattle.nm_leg.specs.Leg.{leg_type}
 use Rattle.nm_mirror.specs.OwnNotes.{answer_of_fail}
+use Rattle.nm_mirror.proofs.FailNotes.{fail-noted}
 use Rattle.nm_mirror.proofs.HeldLemmas.{held-as, refused-stays}
 use Rattle.nm_mirror.proofs.NotedLemmas.{fail-allowed, own-move}
 use Rattle.nm_mirror.proofs.OneWay.{one-way}
 use Rattle.nm_mirror.proofs.OwnSteps.{fail-step, own-noted}
+use Rattle.nm_mirror.proofs.TrailLemmas.{told}
 use Rattle.nm_stripe.specs.declared.step.Step.TheVariants as step
 use Rattle.nm_mirror.proofs.held.Held.fail_leg.Goals as goal
 
@@ -31,5 +35,14 @@ returns-clause-notes g c =
     let type = leg_type g.L.LegPart.model g.L.LegPart.honest in
     let held = c.args.self.now in
     let p = c.fail-failing in
-    own-noted type (step.Fail c.args.leg) (answer_of_fail p.result) held.gated.stripe p.new.self _ _ _
+    own-noted type (step.Fail c.args.leg) (answer_of_fail p.result) held.gated.stripe p.new.self (told type (Does (step.Fail c.args.leg) (answer_of_fail p.result)) (record { stripe = p.new.self; durable = held.gated.durable }) ∷ []) _ _
     (fail-step type held.gated.stripe p.new.self c.args.leg p.result p.ensures.ok p.ensures.cause p.ensures.stays) c.note_made.ensures.notes
+
+pub returns-clause-fails : goal.returns-clause-fails
+returns-clause-fails g c =
+    let type = leg_type g.L.LegPart.model g.L.LegPart.honest in
+    let held = c.args.self.now in
+    let p = c.fail-failing in
+    fail-noted type c.args.leg held.gated (record { stripe = p.new.self; durable = held.gated.durable }) c.args.pass.now c.note_made.new.pass p.result c.requires.leg p.ensures.ok p.ensures.cause
+    (own-noted type (step.Fail c.args.leg) (answer_of_fail p.result) held.gated.stripe p.new.self (told type (Does (step.Fail c.args.leg) (answer_of_fail p.result)) (record { stripe = p.new.self; durable = held.gated.durable }) ∷ []) _ _
+    (fail-step type held.gated.stripe p.new.self c.args.leg p.result p.ensures.ok p.ensures.cause p.ensures.stays) c.note_made.ensures.notes)

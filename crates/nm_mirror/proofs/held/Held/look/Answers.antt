@@ -6,6 +6,8 @@ use Rattle.nm_gate.specs.declared.gated_stripe.GatedStripe.{GatedStripe}
 use Rattle.nm_history.specs.History.{LeadsTo}
 use Rattle.nm_leg.specs.Leg.{leg_type}
 use Rattle.nm_mirror.specs.JointHistory.{history_of}
+use Rattle.nm_mirror.proofs.HeldLemmas.{held-as}
+use Rattle.nm_mirror.proofs.OneWay.{one-way}
 use Rattle.nm_mirror.proofs.held.Held.look.Goals as goal
 
 pub returns-clause-sees : goal.returns-clause-sees
@@ -25,3 +27,6 @@ returns-clause-only g c = record {
   mine = c.look.ensures.sees.mine;
   goes_on = (c.look.ensures.sees.more, sym c.look.ensures.sees.seen);
 }
+
+pub returns-clause-others : goal.returns-clause-others
+returns-clause-others g c = held-as (one-way g.row.L g.L.LegPart) _
