@@ -7,6 +7,7 @@ use Rattle.nm_history.specs.declared.transition.Noted.{Noted}
 use Rattle.nm_history.specs.Telling.{answer_of_return}
 use Rattle.nm_leg.specs.Leg.{LegType}
 use Rattle.nm_mirror.specs.OwnNotes.{NotesReplace, NotesReturn, NotesStep}
+use Rattle.nm_mirror.specs.Status.{LooksAt}
 use Rattle.nm_mirror.proofs.OwnSaves.{answer_of_replace}
 use Rattle.nm_mirror.proofs.OwnSteps.{own-noted}
 use Rattle.nm_mirror.proofs.TrailLemmas.{told}
@@ -26,10 +27,10 @@ some-cause (Some refusal) is some = cc
 
 module _ {L : Type 0} (type : LegType L) (leg : ℕ) (old new : GatedStripe L) where
   -- one that may not join is not noted
-  pub not-joined : (pass : PassView (Noted L)) (refusal : Refusal) → attach_cause old.stripe leg ≡ Some refusal → NotesReturn type leg (old, new) pass pass
-  not-joined pass refusal cause = record {
+  pub not-joined : (before after : PassView (Noted L)) (refusal : Refusal) → attach_cause old.stripe leg ≡ Some refusal → LooksAt type old before after → NotesReturn type leg (old, new) before after
+  not-joined before after refusal cause looks = record {
     joins = λ none. (let no : Some refusal ≡ None = sym cause ∙ none in cc);
-    stays = λ some. refl;
+    stays = λ some. looks;
   }
 
   -- one that may is
@@ -46,7 +47,7 @@ module _ {L : Type 0} (type : LegType L) (leg : ℕ) (part : L) where
   pub replaced-noted : (step : Step L) (old new : StripeState L) (durable : Option Durable) (before after : PassView (Noted L)) (result : Result ℕ (Refusal × L)) → step ≡ Replace leg part → OnOk result (Replaces old new leg part) → IfOk result (λ blocks. blocks ≡ left leg new) → is_ok result ≡ true
       → NotesMoves type new.place.stripe (told type (Does step (answer_of_replace result)) (record { stripe = new; durable = durable }) ∷ []) before after → NotesReplace type leg part (record { stripe = old; durable = durable }, record { stripe = new; durable = durable }) before after
   replaced-noted step old new durable before after (Ok blocks) is ok so went notes = record {
-    joins = λ none. own-noted type (Replace leg part) (Joining (left leg new)) old new _ before after (ok, refl)
+    joins = λ none. own-noted type (Replace leg part) (Joining (left leg new)) old new (told type (Does (Replace leg part) (Joining (left leg new))) (record { stripe = new; durable = durable }) ∷ []) before after (ok, refl)
         (subst (λ (n : ℕ). NotesMoves type new.place.stripe (told type (Does (Replace leg part) (Joining n)) (record { stripe = new; durable = durable }) ∷ []) before after) so
         (subst (λ (s : Step L). NotesMoves type new.place.stripe (told type (Does s (Joining blocks)) (record { stripe = new; durable = durable }) ∷ []) before after) is notes));
     stays = λ some. absurd (some-cause (attach_cause old leg) ok.no_cause some);
@@ -54,9 +55,9 @@ module _ {L : Type 0} (type : LegType L) (leg : ℕ) (part : L) where
   replaced-noted step old new durable before after (Err refused) is ok so went notes = cc
 
   -- one that is not is not
-  pub not-replaced : (old new : GatedStripe L) (pass : PassView (Noted L)) (result : Result ℕ (Refusal × L)) → IfErr result (λ refused. attach_cause old.stripe leg ≡ Some refused.0) → is_ok result ≡ false → NotesReplace type leg part (old, new) pass pass
-  not-replaced old new pass (Ok blocks) cause went = cc
-  not-replaced old new pass (Err refused) cause went = record {
+  pub not-replaced : (old new : GatedStripe L) (before after : PassView (Noted L)) (result : Result ℕ (Refusal × L)) → IfErr result (λ refused. attach_cause old.stripe leg ≡ Some refused.0) → is_ok result ≡ false → LooksAt type old before after → NotesReplace type leg part (old, new) before after
+  not-replaced old new before after (Ok blocks) cause went looks = cc
+  not-replaced old new before after (Err refused) cause went looks = record {
     joins = λ none. (let no : Some refused.0 ≡ None = sym cause ∙ none in cc);
-    stays = λ some. refl;
+    stays = λ some. looks;
   }

@@ -1,8 +1,10 @@
 mod AttachLemmas
+mod AttachNotes
 mod ClaimingLemmas
 mod CountedLemmas
 mod EndingLemmas
 mod FailNotes
+mod GateLemmas
 mod GlanceLemmas
 mod HearingLemmas
 mod HeldLemmas

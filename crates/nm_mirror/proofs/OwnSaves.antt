@@ -56,7 +56,7 @@ pub return-noted : {L : Type 0} (type : LegType L) (leg : ℕ) (result : Result 
     → NotesMoves type new.stripe.place.stripe (told type (Does (Return leg (suspects leg new.durable)) (answer_of_return result)) new ∷ []) before after
     → NotesStep type (Return leg (suspects leg old.durable)) (answer_of_return result) (old, new) before after
 return-noted type leg result old new before after is notes =
-    own-noted type (Return leg (suspects leg old.durable)) (answer_of_return result) old.stripe new.stripe _ before after ((moves-told type).returns leg result old new is).does
+    own-noted type (Return leg (suspects leg old.durable)) (answer_of_return result) old.stripe new.stripe (told type (Does (Return leg (suspects leg old.durable)) (answer_of_return result)) new ∷ []) before after ((moves-told type).returns leg result old new is).does
     (subst (λ (o : Option Durable). NotesMoves type new.stripe.place.stripe (told type (Does (Return leg (suspects leg o)) (answer_of_return result)) new ∷ []) before after) is.durable notes)
 
 -- the answer of a replacement

@@ -52,17 +52,17 @@ pub record NotesFail {L : Type 0} (type : LegType L) (leg : ℕ)
   pub absent : length held.0.stripe.legs ≤ leg → LooksAt type held.0 old new
 
 -- if the leg may join, the pass notes just that it does, with the marks that the gate gives it; if
--- not, nothing
+-- not, it looks
 pub record NotesReturn {L : Type 0} (type : LegType L) (leg : ℕ)
     (held : GatedStripe L × GatedStripe L) (old new : PassView (Noted L)) : Type 0 where
   pub joins : attach_cause held.0.stripe leg ≡ None
       → NotesStep type (Return leg (suspects leg held.0.durable))
       (answer.Joining (left leg held.1.stripe)) held old new
-  pub stays : IsSome (attach_cause held.0.stripe leg) → new ≡ old
+  pub stays : IsSome (attach_cause held.0.stripe leg) → LooksAt type held.0 old new
 
--- if the leg may be replaced, the pass notes just that this one takes its place; if not, nothing
+-- if the leg may be replaced, the pass notes just that this one takes its place; if not, it looks
 pub record NotesReplace {L : Type 0} (type : LegType L) (leg : ℕ) (part : L)
     (held : GatedStripe L × GatedStripe L) (old new : PassView (Noted L)) : Type 0 where
   pub joins : attach_cause held.0.stripe leg ≡ None
       → NotesStep type (Replace leg part) (answer.Joining (left leg held.1.stripe)) held old new
-  pub stays : IsSome (attach_cause held.0.stripe leg) → new ≡ old
+  pub stays : IsSome (attach_cause held.0.stripe leg) → LooksAt type held.0 old new

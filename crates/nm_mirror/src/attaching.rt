@@ -1,15 +1,16 @@
 //! Lets a leg join every stripe again.
-ghost use Rattle.std.specs.Prelude.{◌≡◌, ◌+◌, ◌-◌, ◌^◌, ◌<◌, ◌↔◌, length, None};
+ghost use Rattle.std.specs.Prelude.{◌≡◌, ◌+◌, ◌-◌, ◌^◌, ◌<◌, ◌↔◌, length, None, false};
 ghost use Rattle.std.specs.Prelude.{IfErr, IfOk, IfSome, IsSome, IsTrue, OnErr, OnOk, Some};
 ghost use Rattle.std.specs.Sync.Mutex.{mutex_guard_value};
 ghost use Rattle.nm_gate.specs.Returning.{suspects};
 ghost use Rattle.nm_leg.specs.Leg.{leg_type};
 ghost use Rattle.nm_mirror.specs.Asks.{LetsJoin};
 ghost use Rattle.nm_mirror.specs.Attached.{AttachesEach, AttachesIn, AttachesLeg, GoesOutFirst};
-ghost use Rattle.nm_mirror.specs.Attached.{unchanged};
+ghost use Rattle.nm_mirror.specs.Attached.{IsUnsaved, StaysEach, StaysIn, unchanged};
 ghost use Rattle.nm_mirror.specs.Counts.{attached_so, attaches};
 ghost use Rattle.nm_mirror.specs.Holding.{with_stripe};
 ghost use Rattle.nm_mirror.specs.OwnNotes.{NotesReturn};
+ghost use Rattle.nm_mirror.specs.Status.{OnlySees};
 ghost use Rattle.nm_rules.specs.Attach.{Returns, attach_cause};
 ghost use Rattle.nm_rules.specs.State.{left};
 
@@ -21,13 +22,14 @@ use crate::lock::Lock;
 use crate::mirror::Mirror;
 use crate::trail::LogPass;
 use nm_book::Naming;
+use nm_gate::GatedStripe;
 use nm_lanes::{CallKind, Gate, StepKind};
 use nm_leg::LegPart;
 use nm_stripe::{LegState, Refusal, Stripe};
 use std::sync::{MutexGuard, Wait};
 
 /// Lets the leg join this stripe again, as one that may have lost something. Refused as an attach
-/// is.
+/// is: then the pass looks.
 fn return_to<L: LegPart, J: Naming>(
     held: &mut Held<L, J>,
     pass: &mut LogPass<L, J>,
@@ -46,9 +48,11 @@ fn return_to<L: LegPart, J: Naming>(
         pass.old pass.new }
 {
     if held.gated.stripe.is_stopped() {
+        held.look(pass);
         return Err(Refusal::Stopped);
     }
     if held.gated.stripe.state(leg) != LegState::Out {
+        held.look(pass);
         return Err(Refusal::NotOut);
     }
     held.return_leg(pass, leg)
@@ -99,24 +103,70 @@ fn count_unchanged<L: LegPart>(stripe: &Stripe<L>, counts: &mut AttachCounts)
     }
 }
 
-/// The same in a stripe that may have no such leg, and stays then.
+/// Whether the leg may join the stripe: it is out, and the stripe runs.
+fn may_join<L: LegPart>(stripe: &Stripe<L>, leg: u8) -> bool
+    ensures { IsTrue result
+        ↔ (leg < length stripe.now.legs) × (attach_cause stripe.now leg ≡ None) }
+{
+    (leg as usize) < stripe.legs() && !stripe.is_stopped() && stripe.state(leg) == LegState::Out
+}
+
+/// Whether the gate lets the leg join, if it may.
+fn lets_join<L: LegPart>(gated: &GatedStripe<L>, leg: u8) -> bool
+    ensures joins { IsTrue result → LetsJoin gated.now.durable gated.now.stripe leg }
+    ensures unsaved { result ≡ false → IsUnsaved leg gated.now }
+{
+    if !may_join(&gated.stripe, leg) {
+        return true;
+    }
+    gated.may_attach(leg).is_none()
+}
+
+/// Lets the leg join the stripe, and counts what came of it. It stays where the stripe has no such
+/// leg, and where the gate does not let it join: that counts as a stop. Then the pass looks.
 fn attach_if_there<L: LegPart, J: Naming>(
     held: &mut Held<L, J>,
     pass: &mut LogPass<L, J>,
     leg: u8,
     counts: &mut AttachCounts,
 )
-    requires joins { LetsJoin held.old.gated.durable held.old.gated.stripe leg }
     requires room { attaches counts.old < 2 ^ 64 - 1 }
     ensures one { attaches counts.new ≡ attaches counts.old + 1 }
     ensures counts { AttachesIn (leg_type L.model L.honest) leg
         held.old.gated.stripe.place.stripe (counts.old, pass.old) (counts.new, pass.new) }
 {
-    if (leg as usize) < held.gated.stripe.legs() {
+    if (leg as usize) >= held.gated.stripe.legs() {
+        count_unchanged(&held.gated.stripe, counts);
+        held.look(pass);
+    } else if lets_join(&held.gated, leg) {
         attach_in(held, pass, leg, counts);
     } else {
-        count_unchanged(&held.gated.stripe, counts);
+        counts.stopped += 1;
+        held.look(pass);
     }
+}
+
+/// Counts the stripe, where the leg stays as it is, and looks. Whether it does: not where it may
+/// join.
+fn stays_in<L: LegPart, J: Naming>(
+    held: &mut Held<L, J>,
+    pass: &mut LogPass<L, J>,
+    leg: u8,
+    counts: &mut AttachCounts,
+) -> bool
+    requires { attaches counts.old < 2 ^ 64 - 1 }
+    ensures one { IsTrue result → attaches counts.new ≡ attaches counts.old + 1 }
+    ensures none { IsTrue result → counts.new.joining ≡ counts.old.joining }
+    ensures stays { IsTrue result → StaysIn (leg_type L.model L.honest) leg
+        held.old.gated.stripe.place.stripe (counts.old, pass.old) (counts.new, pass.new) }
+    ensures sees { OnlySees pass.old pass.new }
+{
+    if may_join(&held.gated.stripe, leg) {
+        return false;
+    }
+    count_unchanged(&held.gated.stripe, counts);
+    held.look(pass);
+    true
 }
 
 /// Takes the stripe's master out where it is in doubt and not the last in sync, if the leg joins:
@@ -136,47 +186,49 @@ fn drop_doubted_master<L: LegPart, J: Naming, D: Doubts>(held: &mut Held<L, J>, 
     }
 }
 
-/// Whether the leg may join the stripe: it is out, and the stripe runs.
-fn may_join<L: LegPart>(stripe: &Stripe<L>, leg: u8) -> bool
-    ensures { IsTrue result
-        ↔ (leg < length stripe.now.legs) × (attach_cause stripe.now leg ≡ None) }
-{
-    (leg as usize) < stripe.legs() && !stripe.is_stopped() && stripe.state(leg) == LegState::Out
-}
-
 /// Takes the stripe for an attach of the leg. It waits for no superblock where the leg does not
-/// join, since each may go on calling it in sync.
+/// join, since each may go on calling it in sync, or where none can be saved.
 fn hold_to_attach<'x, L: LegPart, J: Naming, R: Wait>(
     lock: &'x Lock<L, J>,
     rt: &R,
     leg: u8,
-) -> Option<MutexGuard<'x, Held<L, J>>>
-    ensures joins { IfSome result (λ guard. LetsJoin (mutex_guard_value guard).gated.durable
-        (mutex_guard_value guard).gated.stripe leg) }
-    ensures number { IfSome result (λ guard.
-        (mutex_guard_value guard).gated.stripe.place.stripe ≡ lock.now.number) }
+) -> MutexGuard<'x, Held<L, J>>
+    ensures { (mutex_guard_value result).gated.stripe.place.stripe ≡ lock.now.number }
 {
     let held = lock.hold(rt);
     if !may_join(&held.gated.stripe, leg) {
-        return Some(held);
+        return held;
     }
     drop(held);
-    lock.hold_for(rt, Ask::Attach(leg))
+    lock.hold_asking(rt, Ask::Attach(leg))
 }
 
 impl<L: LegPart, G: Gate + Drop, J: Naming> Mirror<L, G, J> {
     /// How an attach of the leg counts, where it is out in no stripe: none where it is out in one.
-    fn count_attached<R: Wait>(&self, rt: &R, leg: u8) -> Option<AttachCounts>
+    /// The pass only looks.
+    fn count_attached<R: Wait>(
+        &self,
+        rt: &R,
+        pass: &mut LogPass<L, J>,
+        leg: u8,
+    ) -> Option<AttachCounts>
         ensures all { IfSome result (λ counts. attaches counts ≡ self.now.shape.stripes) }
         ensures none { IfSome result (λ counts. counts.joining ≡ 0) }
+        ensures each { IfSome result (λ counts. StaysEach (leg_type L.model L.honest) leg
+            self.now.shape.stripes pass.old (counts, pass.new)) }
+        ensures sees { OnlySees pass.old pass.new }
     {
-        let mut counts = AttachCounts::default();
+        let mut counts = AttachCounts {
+            joining: 0,
+            left: 0,
+            not_out: 0,
+            stopped: 0,
+        };
         for stripe in 0..self.shape.stripes {
-            let held = self.hold(rt, stripe);
-            if may_join(&held.gated.stripe, leg) {
+            let mut held = self.hold(rt, stripe);
+            if !stays_in(&mut held, pass, leg, &mut counts) {
                 return None;
             }
-            count_unchanged(&held.gated.stripe, &mut counts);
         }
         Some(counts)
     }
@@ -224,10 +276,7 @@ impl<L: LegPart, G: Gate + Drop, J: Naming> Mirror<L, G, J> {
         ensures counts { AttachesIn (leg_type L.model L.honest) leg stripe
             (counts.old, pass.old) (counts.new, pass.new) }
     {
-        let Some(mut held) = hold_to_attach(self.lock_of(stripe), rt, leg) else {
-            counts.stopped += 1;
-            return;
-        };
+        let mut held = hold_to_attach(self.lock_of(stripe), rt, leg);
         attach_if_there(&mut held, pass, leg, counts);
         drop_doubted_master(&mut held, leg, doubts);
     }
@@ -253,7 +302,8 @@ impl<L: LegPart, G: Gate + Drop, J: Naming> Mirror<L, G, J> {
     /// not the last in sync. Only then the doubts about it are forgotten, and it joins the first of
     /// them. A stripe for which no superblock can be saved counts as stopped.
     ///
-    /// This pass notes each step, but where a master in doubt is taken out.
+    /// This pass notes each step, but where a master in doubt is taken out, and looks at each stripe
+    /// that stays.
     pub fn attach_leg<R: Wait, D: Doubts>(
         &self,
         rt: &R,
@@ -267,7 +317,7 @@ impl<L: LegPart, G: Gate + Drop, J: Naming> Mirror<L, G, J> {
         ensures each { AttachesLeg (leg_type L.model L.honest) leg self.now.shape.stripes
             returning pass.old (result, pass.new) }
     {
-        if let Some(counts) = self.count_attached(rt, leg) {
+        if let Some(counts) = self.count_attached(rt, pass, leg) {
             return counts;
         }
         self.go_out_first(rt, pass, leg, returning);

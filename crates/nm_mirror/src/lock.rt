@@ -254,6 +254,16 @@ impl<L: LegPart, J: Naming> Lock<L, J> {
         self.hold_once_saved(rt, ask)
     }
 
+    /// Waits for the stripe, as `hold_for`. Where no save can be done, takes it as it is.
+    pub(crate) fn hold_asking<R: Wait>(&self, rt: &R, ask: Ask) -> MutexGuard<'_, Held<L, J>>
+        ensures { (mutex_guard_value result).gated.stripe.place.stripe ≡ self.now.number }
+    {
+        match self.hold_for(rt, ask) {
+            Some(guard) => guard,
+            None => self.hold(rt),
+        }
+    }
+
     // Asks for a save where the gate refuses this, and tries again once one is done.
     #[cold]
     fn hold_once_saved<R: Wait>(&self, rt: &R, ask: Ask) -> Option<MutexGuard<'_, Held<L, J>>>

@@ -187,7 +187,8 @@ impl<L: LegPart, J: Naming> Held<L, J> {
         self.replace_leg_as::<Brand>(pass, leg, part)
     }
 
-    // The same, told as this step. One that is refused changes nothing, and is not noted.
+    // The same, told as this step. One that is refused changes nothing, and is not noted: the pass
+    // looks.
     fn replace_leg_as<S: Plans<L>>(
         &mut self,
         pass: &mut LogPass<L, J>,
@@ -211,6 +212,8 @@ impl<L: LegPart, J: Naming> Held<L, J> {
         if replaced.is_ok() {
             self.trail
                 .note_made::<Brand, _>(pass, &self.gated, &replaced);
+        } else {
+            self.trail.look(pass);
         }
         replaced
     }

@@ -1,6 +1,6 @@
 //! Puts another leg in the place of one in every stripe.
 ghost use Rattle.std.specs.Prelude.{◌≡◌, ◌≢◌, ◌+◌, ◌-◌, ◌^◌, ◌<◌, ◌≤◌, ◌↔◌, length, None};
-ghost use Rattle.std.specs.Prelude.{IfErr, IfOk, IfSome, IsSome, IsTrue, OnOk, Some, true};
+ghost use Rattle.std.specs.Prelude.{IfErr, IfOk, IfSome, IsSome, IsTrue, OnOk, Some, false, true};
 ghost use Rattle.std.specs.Prelude.{if◌then◌else◌};
 ghost use Rattle.nm_choice.specs.declared.leg_state.LegState.TheVariants.{Out};
 ghost use Rattle.nm_rules.specs.Attach.{Replaces, attach_cause};
@@ -10,16 +10,17 @@ ghost use Rattle.nm_mirror.specs.Counts.{replaced_so, replaces};
 ghost use Rattle.nm_leg.specs.Leg.{leg_type};
 ghost use Rattle.nm_mirror.specs.Holding.{with_stripe};
 ghost use Rattle.nm_mirror.specs.OwnNotes.{NotesReplace};
-ghost use Rattle.nm_mirror.specs.Replaced.{ReplacesEach, ReplacesIn};
+ghost use Rattle.nm_mirror.specs.Replaced.{ReplacesEach, ReplacesIn, StaysOut};
 ghost use Rattle.nm_mirror.specs.Replacing.{EndsWithdrawal, IsOnlyOne, IsWithdrawn};
 ghost use Rattle.nm_mirror.specs.declared.ask.Ask.TheVariants as ask;
 
-use crate::ask::Ask;
+use crate::ask::{Ask, refusal_of};
 use crate::counts::ReplaceCounts;
 use crate::held::Held;
 use crate::mirror::Mirror;
 use crate::trail::LogPass;
 use nm_book::Naming;
+use nm_gate::GatedStripe;
 use nm_lanes::{CallKind, Gate, StepKind};
 use nm_leg::LegPart;
 use nm_stripe::{LegState, Refusal, Stripe};
@@ -106,6 +107,47 @@ fn replace_in<L: LegPart, J: Naming>(
         }
         Err((Refusal::Stopped, _)) => counts.stopped += 1,
         Err(_) => counts.not_out += 1,
+    }
+}
+
+/// Whether the new leg may be put in the place of this one: the stripe has it, the new one is as
+/// long, and the gate lets that pass where the old one is out.
+fn may_replace<L: LegPart>(gated: &GatedStripe<L>, leg: u8, part: &L) -> bool
+    ensures leg { IsTrue result → leg < length gated.now.stripe.legs }
+    ensures length { IsTrue result
+        → length (L.model part.now).contents ≡ gated.now.stripe.place.blocks }
+    ensures passes { IsTrue result
+        → LetsPass gated.now.durable gated.now.stripe (ask.Replace leg) }
+    ensures stays { result ≡ false → StaysOut (leg_type L.model L.honest) leg part.now gated.now }
+{
+    if (leg as usize) >= gated.stripe.legs() {
+        return false;
+    }
+    if part.len() != gated.stripe.blocks() {
+        return false;
+    }
+    refusal_of(gated, Ask::Replace(leg)).is_none()
+}
+
+/// Puts it there, and counts what came of it. Where it may not be put there the old leg counts as
+/// one that stays out, and the pass looks.
+fn replace_if_fits<L: LegPart, J: Naming>(
+    held: &mut Held<L, J>,
+    pass: &mut LogPass<L, J>,
+    leg: u8,
+    part: L,
+    counts: &mut ReplaceCounts,
+)
+    requires room { replaces counts.old < 2 ^ 64 - 1 }
+    ensures one { replaces counts.new ≡ replaces counts.old + 1 }
+    ensures counts { ReplacesIn (leg_type L.model L.honest) leg part
+        held.old.gated.stripe.place.stripe (counts.old, pass.old) (counts.new, pass.new) }
+{
+    if may_replace(&held.gated, leg, &part) {
+        replace_in(held, pass, leg, part, counts);
+    } else {
+        counts.out += 1;
+        held.look(pass);
     }
 }
 
@@ -254,18 +296,7 @@ impl<L: LegPart, G: Gate + Drop, J: Naming> Mirror<L, G, J> {
         ensures counts { ReplacesIn (leg_type L.model L.honest) leg part stripe
             (counts.old, pass.old) (counts.new, pass.new) }
     {
-        let Some(mut held) = self.lock_of(stripe).hold_for(rt, Ask::Replace(leg)) else {
-            counts.out += 1;
-            return;
-        };
-        if (leg as usize) >= held.gated.stripe.legs() {
-            counts.out += 1;
-            return;
-        }
-        if part.len() != held.gated.stripe.blocks() {
-            counts.out += 1;
-            return;
-        }
-        replace_in(&mut held, pass, leg, part, counts);
+        let mut held = self.lock_of(stripe).hold_asking(rt, Ask::Replace(leg));
+        replace_if_fits(&mut held, pass, leg, part, counts);
     }
 }

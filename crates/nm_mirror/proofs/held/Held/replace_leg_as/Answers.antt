@@ -2,6 +2,7 @@
 use Rattle.nm_leg.specs.Leg.{leg_type}
 use Rattle.nm_mirror.proofs.AttachLemmas.{not-replaced, replaced-noted}
 use Rattle.nm_mirror.proofs.HeldLemmas.{held-as, refused-stays}
+use Rattle.nm_mirror.proofs.LookLemmas.{trail-looks}
 use Rattle.nm_mirror.proofs.OneWay.{one-way}
 use Rattle.std.proofs.Common.{rules}
 use Rattle.nm_mirror.proofs.held.Held.replace_leg_as.Goals as goal
@@ -24,4 +25,5 @@ returns-then-is_ok-clause-notes g c =
 pub returns-else-is_ok-clause-notes : goal.returns-else-is_ok-clause-notes
 returns-else-is_ok-clause-notes g c =
     let r = c.replace-replaced in
-    not-replaced (leg_type g.L.LegPart.model g.L.LegPart.honest) c.args.leg c.args.part c.args.self.now.gated _ c.args.pass.now r.result r.ensures.cause (search rules)
+    not-replaced (leg_type g.L.LegPart.model g.L.LegPart.honest) c.args.leg c.args.part c.args.self.now.gated _ c.args.pass.now c.look.new.pass r.result r.ensures.cause (search rules)
+    (trail-looks (leg_type g.L.LegPart.model g.L.LegPart.honest) c.args.pass.now c.look.new.pass c.args.self.now.trail c.args.self.now.gated c.args.self.now.leads c.look.ensures.sees c.look.ensures.leads)
