@@ -27,8 +27,8 @@ answer_of_fail (Ok failing.Failed) = answer.Failed
 answer_of_fail (Ok (failing.MasterChanged master)) = answer.MasterChanged master
 answer_of_fail (Err refusal) = refused_with_nothing refusal
 
--- the same, as the stripe tells by what it was and is: why the leg may not go out, or whether it was
--- the master, and which leg is it now
+-- the same, as the stripe tells by what it was and is: why the leg may not go out, or whether it
+-- was the master, and which leg is it now
 abbrev pub answer_in_fail : {L : Type 0} → ℕ → (old new : StripeState L) → Option Refusal
     → Answer L
 answer_in_fail leg old new (Some refusal) = refused_with_nothing refusal

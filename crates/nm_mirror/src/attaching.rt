@@ -302,8 +302,8 @@ impl<L: LegPart, G: Gate + Drop, J: Naming> Mirror<L, G, J> {
     /// not the last in sync. Only then the doubts about it are forgotten, and it joins the first of
     /// them. A stripe for which no superblock can be saved counts as stopped.
     ///
-    /// This pass notes each step, but where a master in doubt is taken out, and looks at each stripe
-    /// that stays.
+    /// This pass notes each step, but where a master in doubt is taken out, and looks at each
+    /// stripe that stays.
     pub fn attach_leg<R: Wait, D: Doubts>(
         &self,
         rt: &R,

@@ -22,10 +22,10 @@ use nm_part::Part;
 use nm_stripe::{Beginning, Copying, Reach, Reading, Refusal, Syncing, Written};
 use std::marker::Brand;
 
-/// Each step asks the stripe through the part once, notes that through the pass, and changes nothing
-/// else that is held. Where the stripe is not the part's nothing is noted. A begin, a claim, a flush
-/// and a copy may be done only where the gate lets it pass: no contract of a lane can say that of
-/// what stands behind a lock.
+/// Each step asks the stripe through the part once, notes that through the pass, and changes
+/// nothing else that is held. Where the stripe is not the part's nothing is noted. A begin, a
+/// claim, a flush and a copy may be done only where the gate lets it pass: no contract of a lane
+/// can say that of what stands behind a lock.
 impl<L: LegPart, J: Naming> Held<L, J> {
     /// Begins a write.
     #[inline(always)]

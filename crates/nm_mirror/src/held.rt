@@ -14,9 +14,9 @@ use nm_stripe::{At, Policy, Stripe};
 use std::alloc::Global;
 use std::sync::Arc;
 
-/// A stripe and its gate, what is noted of it in the log of the mirror, how many times it was opened
-/// anew, what its earlier openings have had, and which writes nobody is to claim whose call has
-/// ended. What is noted leads to just this stripe.
+/// A stripe and its gate, what is noted of it in the log of the mirror, how many times it was
+/// opened anew, what its earlier openings have had, and which writes nobody is to claim whose call
+/// has ended. What is noted leads to just this stripe.
 #[derive(Drop)]
 pub struct Held<L: LegPart, J: Naming> {
     pub(crate) gated: GatedStripe<L>,

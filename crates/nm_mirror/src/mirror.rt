@@ -182,7 +182,8 @@ impl<L: LegPart, G: Gate + Drop, J: Naming> Mirror<L, G, J> {
         self.lock_of(stripe).hold(rt)
     }
 
-    /// A new pass through the log, for one who looks at the stripes or does what no client asks for.
+    /// A new pass through the log, for one who looks at the stripes or does what no client asks
+    /// for.
     pub fn actor(&self) -> LogPass<L, J>
         ensures { result.mine ≡ [] }
     {

@@ -37,9 +37,9 @@ use nm_leg::LegPart;
 use nm_stripe::{Copying, Failing, Promotion, Reach, Refusal, Syncing, Written};
 use std::marker::Brand;
 
-/// Each is one step of the stripe or of its gate, with its answer, is noted, and changes nothing else
-/// that is held. Together with the steps of a pass, the looks and `reopen` they are all that changes
-/// a stripe of a mirror: nobody else is lent one.
+/// Each is one step of the stripe or of its gate, with its answer, is noted, and changes nothing
+/// else that is held. Together with the steps of a pass, the looks and `reopen` they are all that
+/// changes a stripe of a mirror: nobody else is lent one.
 impl<L: LegPart, J: Naming> Held<L, J> {
     /// Pushes a write whose call does not do so.
     pub(crate) fn push_owed(&mut self, ticket: u64, leg: u8) -> Result<Reach, Refusal>

@@ -27,8 +27,8 @@ use nm_stripe::{Beginning, Copying, Reach, Reading, Refusal, Syncing, Written};
 use std::marker::Model;
 use std::sync::Wait;
 
-/// The part of a pass in one stripe, as a lane over the stripe's lock, with a pass of its own through
-/// the log of the mirror: each step for which the stripe was asked is noted there.
+/// The part of a pass in one stripe, as a lane over the stripe's lock, with a pass of its own
+/// through the log of the mirror: each step for which the stripe was asked is noted there.
 ///
 /// A begin, a claim, a sync and a copy wait until the stripe's gate lets them pass. Where no
 /// superblock can be saved, what the gate refuses is refused as `SaveFailed`, and so is a write

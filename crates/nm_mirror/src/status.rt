@@ -102,8 +102,8 @@ impl fmt::Display for StripeStatus {
 }
 
 impl<L: LegPart, G: Gate + Drop, J: Naming> Mirror<L, G, J> {
-    /// What each stripe is doing, by rising number of the stripes: that to which the log leads there
-    /// when this pass looks.
+    /// What each stripe is doing, by rising number of the stripes: that to which the log leads
+    /// there when this pass looks.
     pub fn status<R: Wait>(
         &self,
         rt: &R,
