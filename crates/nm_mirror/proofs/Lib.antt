@@ -6,7 +6,7 @@ mod EndingLemmas
 mod FailNotes
 mod GateLemmas
 mod GlanceLemmas
-mod HearingLemmas
+pub mod HearingLemmas
 mod HeldLemmas
 mod HeldSame
 mod JointLemmas
