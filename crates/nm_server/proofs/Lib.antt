@@ -1,2 +1,5 @@
+mod Behind
 mod Evenness
+mod OwnRequests
 mod Telling
+mod Waiting

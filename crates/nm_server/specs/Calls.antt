@@ -6,14 +6,17 @@ use Rattle.nm_geometry.specs.declared.byte_range.ByteRange.{ByteRange}
 use Rattle.nm_geometry.specs.Geometry.{Geometry}
 use Rattle.nm_lanes.specs.declared.call_error.CallError.{CallError}
 use Rattle.nm_lanes.specs.Cuts.{cuts_for, zeroes_for}
+use Rattle.nm_lanes.specs.Done.{Done}
 use Rattle.nm_lanes.specs.Flushes.{HasFlushed, HasFlushedSome, IsStripeOf, Touches}
 use Rattle.nm_lanes.specs.Reads.{HasRead, HasReadSome}
 use Rattle.nm_lanes.specs.Runs.{runs_of_range}
 use Rattle.nm_lanes.specs.Writes.{HasWritten, HasWrittenSome}
 use Rattle.nm_leg.specs.Leg.{LegType}
 use Rattle.nm_mirror.specs.Counting.{Follows}
+use Rattle.nm_mirror.specs.Hearing.{EachBecomes, Waits}
 use Rattle.nm_mirror.specs.LaneState.{LaneState}
 use Rattle.nm_mirror.specs.declared.pass.Pass.{Pass}
+use Rattle.nm_mirror.proofs.HearingLemmas.{wait-here, wait-on}
 use Rattle.nm_reports.specs.declared.mirror_call.MirrorCall.{MirrorCall}
 use Rattle.nm_reports.specs.declared.mirror_call.MirrorCall.TheVariants as mirror
 use Rattle.nm_session.specs.declared.target_fault.TargetFault.TheVariants.{Memory, Io, Full}
@@ -59,62 +62,75 @@ range_at offset length = record { offset = offset; length = length }
 
 -- a read of the runs of this range: all of them and these bytes found; or some, and then a step
 -- ended it
-abbrev pub Read : {L : Type 0} → LegType L → Geometry → ByteRange → List ℕ → Answer → Parts L
-    → Type 0
-Read type shape range bytes (Ok done) parts =
-    HasRead (Follows type) shape (runs_of_range shape range) parts bytes
-Read type shape range bytes (Err Memory) parts = ⊥
-Read type shape range bytes (Err Full) parts = ⊥
-Read type shape range bytes (Err Io) parts =
-    (cause : CallError) × HasReadSome (Follows type) shape (runs_of_range shape range) parts cause
+abbrev pub Read : {L : Type 0} → (LaneState L → List (Done L) → LaneState L → Type 0) → Geometry
+    → ByteRange → List ℕ → Answer → Parts L → Type 0
+Read follows shape range bytes (Ok done) parts =
+    HasRead follows shape (runs_of_range shape range) parts bytes
+Read follows shape range bytes (Err Memory) parts = ⊥
+Read follows shape range bytes (Err Full) parts = ⊥
+Read follows shape range bytes (Err Io) parts =
+    (cause : CallError) × HasReadSome follows shape (runs_of_range shape range) parts cause
 
 -- a write of these bytes to the runs of this range: all of it; nothing, out of memory; or some, and
 -- then a step ended it
-abbrev pub Write : {L : Type 0}
-    → LegType L → Geometry → ByteRange → List ℕ → Answer → Parts L → Type 0
-Write type shape range bytes (Ok done) parts =
-    HasWritten (Follows type) shape (cuts_for (runs_of_range shape range) bytes) parts
-Write type shape range bytes (Err Memory) parts = parts.1 ≡ parts.0
-Write type shape range bytes (Err fault) parts =
+abbrev pub Write : {L : Type 0} → (LaneState L → List (Done L) → LaneState L → Type 0) → Geometry
+    → ByteRange → List ℕ → Answer → Parts L → Type 0
+Write follows shape range bytes (Ok done) parts =
+    HasWritten follows shape (cuts_for (runs_of_range shape range) bytes) parts
+Write follows shape range bytes (Err Memory) parts = parts.1 ≡ parts.0
+Write follows shape range bytes (Err fault) parts =
     (cause : CallError)
-    × HasWrittenSome (Follows type) shape (cuts_for (runs_of_range shape range) bytes) parts cause
+    × HasWrittenSome follows shape (cuts_for (runs_of_range shape range) bytes) parts cause
 
 -- zeroes written to the runs of this range, which takes no memory
-abbrev pub Zero : {L : Type 0} → LegType L → Geometry → ByteRange → Answer → Parts L → Type 0
-Zero type shape range (Ok done) parts =
-    HasWritten (Follows type) shape (zeroes_for (runs_of_range shape range)) parts
-Zero type shape range (Err Memory) parts = ⊥
-Zero type shape range (Err fault) parts =
+abbrev pub Zero : {L : Type 0} → (LaneState L → List (Done L) → LaneState L → Type 0) → Geometry
+    → ByteRange → Answer → Parts L → Type 0
+Zero follows shape range (Ok done) parts =
+    HasWritten follows shape (zeroes_for (runs_of_range shape range)) parts
+Zero follows shape range (Err Memory) parts = ⊥
+Zero follows shape range (Err fault) parts =
     (cause : CallError)
-    × HasWrittenSome (Follows type) shape (zeroes_for (runs_of_range shape range)) parts cause
+    × HasWrittenSome follows shape (zeroes_for (runs_of_range shape range)) parts cause
 
 -- a sync, which takes no memory: each leg was synced in each of these stripes; or in some of them,
 -- and then a step ended it
-abbrev pub Sync : {L : Type 0} → LegType L → Geometry → (ℕ → Type 0) → Answer → Parts L → Type 0
-Sync type shape Synced (Ok done) parts = HasFlushed (Follows type) shape.legs Synced parts
-Sync type shape Synced (Err Memory) parts = ⊥
-Sync type shape Synced (Err fault) parts =
-    (cause : CallError) × HasFlushedSome (Follows type) shape.legs Synced parts cause
+abbrev pub Sync : {L : Type 0} → (LaneState L → List (Done L) → LaneState L → Type 0) → Geometry
+    → (ℕ → Type 0) → Answer → Parts L → Type 0
+Sync follows shape Synced (Ok done) parts = HasFlushed follows shape.legs Synced parts
+Sync follows shape Synced (Err Memory) parts = ⊥
+Sync follows shape Synced (Err fault) parts =
+    (cause : CallError) × HasFlushedSome follows shape.legs Synced parts cause
 
--- what a call does, answered so, through a pass that has a part for each stripe
+-- what a call does, answered so, through a pass that has a part for each stripe: by steps that lead
+-- each lane so from its state before to its state after
+abbrev pub ActsBy : {L : Type 0} → (LaneState L → List (Done L) → LaneState L → Type 0)
+    → Geometry → TargetCall → Parts L → Type 0
+ActsBy follows shape (Reads offset bytes answer) =
+    Read follows shape (range_at offset (length bytes)) bytes answer
+ActsBy follows shape (Writes offset bytes answer) =
+    Write follows shape (range_at offset (length bytes)) bytes answer
+ActsBy follows shape (Zeroes offset count answer) =
+    Zero follows shape (range_at offset count) answer
+ActsBy follows shape (Flushes answer) = Sync follows shape (IsStripeOf shape) answer
+ActsBy follows shape (Syncs offset count answer) =
+    Sync follows shape (Touches shape (range_at offset count)) answer
+
+-- what a call does through a pass whose steps stand in the log
 abbrev pub Acts : {L : Type 0} → LegType L → Geometry → TargetCall → Parts L → Type 0
-Acts type shape (Reads offset bytes answer) =
-    Read type shape (range_at offset (length bytes)) bytes answer
-Acts type shape (Writes offset bytes answer) =
-    Write type shape (range_at offset (length bytes)) bytes answer
-Acts type shape (Zeroes offset count answer) =
-    Zero type shape (range_at offset count) answer
-Acts type shape (Flushes answer) = Sync type shape (IsStripeOf shape) answer
-Acts type shape (Syncs offset count answer) =
-    Sync type shape (Touches shape (range_at offset count)) answer
+Acts type shape call parts = ActsBy (Follows type) shape call parts
 
--- calls one after the other
+-- calls one after the other; before each, and after the last, the parts may see the log go on
+abbrev pub LeadBy : {L : Type 0} → (LaneState L → List (Done L) → LaneState L → Type 0)
+    → LegType L → Geometry → List (LaneState L) → List TargetCall → List (LaneState L) → Type 0
+LeadBy follows type shape old [] new = EachBecomes (Waits type) old new
+LeadBy {L} follows type shape old (call ∷ calls) new =
+    (front : List (LaneState L)) × (mid : List (LaneState L)) × EachBecomes (Waits type) old front
+    × ActsBy follows shape call (front, mid) × LeadBy follows type shape mid calls new
+
+-- so calls whose steps stand in the log lead
 abbrev pub LeadMirror : {L : Type 0} → LegType L → Geometry → List (LaneState L) → List TargetCall
     → List (LaneState L) → Type 0
-LeadMirror type shape old [] new = new ≡ old
-LeadMirror {L} type shape old (call ∷ calls) new =
-    (mid : List (LaneState L)) × Acts type shape call (old, mid)
-    × LeadMirror type shape mid calls new
+LeadMirror type shape old calls new = LeadBy (Follows type) type shape old calls new
 
 -- how a mirror's blocks lie in its stripes, and the parts of a pass through it
 pub record PassState (L : Type 0) : Type 0 where
@@ -133,14 +149,28 @@ pub record Leads {L : Type 0} (type : LegType L) (old : PassState L) (calls : Li
 
 -- no call leads from one to itself
 pub leads-nowhere : {L : Type 0} (type : LegType L) (old : PassState L) → Leads type old [] old
-leads-nowhere type old = record { shape = refl; calls_lead = refl }
+leads-nowhere type old = record { shape = refl; calls_lead = wait-here type old.parts }
+
+-- what waits first
+wait-first : {L : Type 0} (type : LegType L) (shape : Geometry) (old mid new : List (LaneState L))
+    (calls : List TargetCall) → EachBecomes (Waits type) old mid
+    → LeadMirror type shape mid calls new → LeadMirror type shape old calls new
+wait-first type shape old mid new [] before after = wait-on type old mid new before after
+wait-first type shape old mid new (call ∷ calls) before after =
+    (after.0, after.1, wait-on type old mid after.0 before after.2, after.3, after.4)
 
 lead-on : {L : Type 0} (type : LegType L) (shape : Geometry) (old mid new : List (LaneState L))
     (first second : List TargetCall) → LeadMirror type shape old first mid
     → LeadMirror type shape mid second new → LeadMirror type shape old (first ++ second) new
-lead-on type shape old mid new [] second before after = rw (← before) after
-lead-on type shape old mid new (call ∷ first) second before after =
-    (before.0, before.1, lead-on type shape before.0 mid new first second before.2 after)
+lead-on type shape old mid new [] second before after =
+    wait-first type shape old mid new second before after
+lead-on type shape old mid new (call ∷ first) second before after = (
+  before.0,
+  before.1,
+  before.2,
+  before.3,
+  lead-on type shape before.1 mid new first second before.4 after,
+)
 
 -- calls that follow one another are one list
 pub leads-on : {L : Type 0} (type : LegType L) (old mid new : PassState L)

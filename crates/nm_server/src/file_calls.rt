@@ -1,17 +1,19 @@
 //! The calls of the mirror that the program serves.
 ghost use Rattle.std.specs.Prelude.{◌≡◌, ◌≤◌, ◌+◌, ◌*◌, length};
 ghost use Rattle.nm_leg.specs.Leg.{leg_type};
+ghost use Rattle.nm_mirror.specs.Hearing.{EachBecomes, LaneHears};
 ghost use Rattle.nm_server.specs.Calls.{Acts, IsEven, IsInside, answered, told};
 ghost use Rattle.nm_session.specs.Target.{Writes, Zeroes};
 
 use crate::mirror_calls::MirrorCalls;
 use bytes::Bytes;
 use nm_connections::SessionPlaces;
+use nm_file_leg::FileLeg;
 use nm_geometry::Shape;
 use nm_lanes::{Gate, WriteFault};
 use nm_leg::LegPart;
-use nm_leg_files::{FileMirror, Leg, LegSyncs};
-use nm_mirror::{Mirror, Naming, Pass};
+use nm_leg_files::{CountingFile, FileMirror, Leg, LegSyncs};
+use nm_mirror::{LogTold, Mirror, Naming, Pass, SessionTrail};
 use nm_reports::{Metrics, MirrorCall, MirrorCallKind, bytes_of, microseconds_since};
 use nm_session::TargetFault;
 use std::alloc::Global;
@@ -98,6 +100,22 @@ impl<'a, R: Wait + Copy + Clock, J: Naming> MirrorCalls<Leg, J> for FileCalls<'a
             );
         }
         told(answer, changes && self.metrics.is_full_alone())
+    }
+
+    fn session(&self) -> SessionTrail<'_, Leg, J> {
+        self.mirror.session(self.rt)
+    }
+
+    fn hear(&self, pass: &mut Pass<Leg, J>, seen: LogTold<Leg, J>)
+        ensures { EachBecomes (LaneHears (leg_type ⟦<FileLeg<CountingFile> as LegPart>⟧.model
+            ⟦<FileLeg<CountingFile> as LegPart>⟧.honest) seen)
+            pass.old.parts.items pass.new.parts.items }
+    {
+        self.mirror.hear(pass, seen)
+    }
+
+    fn tell(&self, pass: &mut Pass<Leg, J>) -> LogTold<Leg, J> {
+        self.mirror.tell(pass)
     }
 }
 

@@ -11,7 +11,9 @@ mod control_meanwhile;
 mod counted_calls;
 mod equipment;
 mod file_calls;
+pub mod laws;
 mod mirror_calls;
+mod mirror_log;
 mod mirror_target;
 mod program;
 mod run;
@@ -20,5 +22,6 @@ mod sessions;
 
 pub use crate::file_calls::call_mirror;
 pub use crate::mirror_calls::MirrorCalls;
+pub use crate::mirror_log::MirrorLog;
 pub use crate::mirror_target::MirrorTarget;
 pub use crate::program::{refuse_words, start};

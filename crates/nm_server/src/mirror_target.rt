@@ -1,14 +1,16 @@
 //! What a session's requests act on: a mirror, through a pass.
-ghost use Rattle.std.specs.Prelude.{◌≡◌, ◌*◌, ◌↔◌, [], ◌∷◌, length, ⊤, IsSome, IfSome};
+ghost use Rattle.std.specs.Prelude.{◌≡◌, ◌*◌, ◌≤◌, ◌↔◌, [], ◌∷◌, length, IsSome, IfSome};
 ghost use Rattle.nm_leg.specs.Leg.{leg_type};
+ghost use Rattle.nm_mirror.specs.Hearing.{HaveHeard, HaveTold};
 ghost use Rattle.nm_server.specs.Calls.{IsEven, IsInside, Leads, answered, leads-nowhere};
 ghost use Rattle.nm_server.specs.Calls.{leads-on, state_of};
 
 use crate::mirror_calls::MirrorCalls;
+use crate::mirror_log::MirrorLog;
 use bytes::Bytes;
 use nm_geometry::Shape;
 use nm_leg::LegPart;
-use nm_mirror::{Naming, Pass};
+use nm_mirror::{LogTold, Naming, Pass};
 use nm_reports::MirrorCall;
 use nm_session::{Target, TargetFault};
 use std::sync::atomic::AtomicBool;
@@ -23,6 +25,7 @@ pub struct MirrorTarget<'a, L: LegPart, J: Naming, C: MirrorCalls<L, J> + Drop, 
     // Dropped with the target, once its session asks for nothing more.
     hang_up: H,
     ghost even: { IsEven (C.shape mirror.now) pass.now.parts.items },
+    ghost some: { 1 ≤ (C.shape mirror.now).stripes },
 }
 
 impl<'a, L: LegPart, J: Naming, C: MirrorCalls<L, J> + Drop, H: Drop> MirrorTarget<'a, L, J, C, H> {
@@ -69,13 +72,35 @@ impl<'a, L: LegPart, J: Naming, C: MirrorCalls<L, J> + Drop, H> MirrorTarget<'a,
         self.mirror
             .call_through(self.pass, call, into, self.is_gone)
     }
+
+    // Takes in what was told of the log.
+    fn take_in(&mut self, told: LogTold<L, J>)
+        ensures heard { HaveHeard self.new.pass.now.parts.items told }
+        ensures leads { Leads (leg_type L.model L.honest)
+            (state_of (C.shape self.old.mirror.now) self.old.pass.now) []
+            (state_of (C.shape self.new.mirror.now) self.new.pass.now) }
+    {
+        self.mirror.hear(self.pass, told);
+    }
+
+    // Tells what was seen of the log.
+    fn tell_seen(&mut self) -> LogTold<L, J>
+        ensures told { HaveTold self.new.pass.now.parts.items result }
+        ensures leads { Leads (leg_type L.model L.honest)
+            (state_of (C.shape self.old.mirror.now) self.old.pass.now) []
+            (state_of (C.shape self.new.mirror.now) self.new.pass.now) }
+    {
+        self.mirror.tell(self.pass)
+    }
 }
 
-impl<'a, L: LegPart, J: Naming, C: MirrorCalls<L, J> + Drop, H> Target
+impl<'a, L: LegPart + Send, J: Naming + Send + Sync, C: MirrorCalls<L, J> + Drop, H> Target
     for MirrorTarget<'a, L, J, C, H> {
-    type Told = ();
+    ghost use Rattle.nm_mirror.specs.Hearing.{HaveHeard, HaveTold};
 
-    type Log = ();
+    type Told = LogTold<L, J>;
+
+    type Log = MirrorLog<'a, L, J>;
 
     ghost size = { λ target. 512 * (C.shape target.mirror.now).blocks };
 
@@ -83,9 +108,9 @@ impl<'a, L: LegPart, J: Naming, C: MirrorCalls<L, J> + Drop, H> Target
         (state_of (C.shape old.mirror.now) old.pass.now) calls
         (state_of (C.shape new.mirror.now) new.pass.now) };
 
-    ghost has_heard = { λ _ _. ⊤ };
+    ghost has_heard = { λ target told. HaveHeard target.pass.now.parts.items told };
 
-    ghost has_told = { λ _ _. ⊤ };
+    ghost has_told = { λ target told. HaveTold target.pass.now.parts.items told };
 
     ghost stays = { λ target.
         leads-nowhere (leg_type L.model L.honest)
@@ -116,7 +141,11 @@ impl<'a, L: LegPart, J: Naming, C: MirrorCalls<L, J> + Drop, H> Target
         self.call(MirrorCall::Sync(offset, length), &mut [])
     }
 
-    fn hear(&mut self, _told: ()) {}
+    fn hear(&mut self, told: LogTold<L, J>) {
+        self.take_in(told)
+    }
 
-    fn tell(&mut self) {}
+    fn tell(&mut self) -> LogTold<L, J> {
+        self.tell_seen()
+    }
 }

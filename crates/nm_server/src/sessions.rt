@@ -8,6 +8,7 @@ ghost use Rattle.nm_wire.specs.Export.{size_of};
 use crate::counted_calls::CountedCalls;
 use crate::file_calls::FileCalls;
 use crate::mirror_calls::MirrorCalls;
+use crate::mirror_log::MirrorLog;
 use crate::mirror_target::MirrorTarget;
 use nm_connections::{
     ClientReader, ClientStream, ClientWriter, Ending, HangUp, Peer, SessionEnd, SessionPlaces,
@@ -192,7 +193,7 @@ where
 {
     let backend = Backend {
         targets: targets_of(alloc, mirror, passes, client)?,
-        log: (),
+        log: MirrorLog::new(mirror),
     };
     let reader = ClientReader::new(client, places.is_over());
     let sender = ReplyWriter::new(ClientWriter::new(client));
