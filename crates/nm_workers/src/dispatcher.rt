@@ -32,22 +32,45 @@ const ENOUGH: u16 = 16;
 // replies is noticed.
 const MOST: u16 = 1024;
 
+// How many requests the owner does while long payloads are read, before a worker has to show anew
+// that to do one takes no longer.
+const QUICK: u8 = 64;
+
 // How many requests in a row were short and came alone: no other one was outstanding then. A client
 // that waits for each reply before it sends the next request is serial.
+//
+// Of a client that sends long payloads in a row: how many more requests the owner does, each while
+// the payload behind it is read. As many as may be, once one that a worker did was answered before
+// the payload behind it had come: to hand them on would take longer than to do them.
 #[derive(Clone, Copy, Drop)]
 pub struct SerialClient {
     alone: u16,
+    quick: u8,
+    // Whether a long payload comes behind the last request.
+    is_followed: bool,
+    // Whether that request is a worker's, and shows how long it takes.
+    is_tried: bool,
 }
 
 impl SerialClient {
     // None yet.
     pub(crate) fn new() -> SerialClient {
-        SerialClient { alone: 0 }
+        SerialClient {
+            alone: 0,
+            quick: 0,
+            is_followed: false,
+            is_tried: false,
+        }
     }
 
     // Whether enough requests in a row were so.
     pub(crate) fn is_serial(&self) -> bool {
         self.alone >= ENOUGH
+    }
+
+    // Whether to do the last request takes no longer than to read the payload behind it.
+    pub(crate) fn is_quick(&self) -> bool {
+        self.is_followed && self.quick > 0
     }
 
     // Notes a request, which was short and alone or not.
@@ -57,6 +80,18 @@ impl SerialClient {
         } else {
             0
         };
+    }
+
+    // Notes a request, beside which no other one is outstanding, or not, and behind which a thread
+    // reads a long payload, or not.
+    pub(crate) fn note_payload(&mut self, alone: bool, is_followed: bool) {
+        self.quick = if alone && self.is_tried {
+            QUICK
+        } else {
+            self.quick.saturating_sub(1)
+        };
+        self.is_followed = is_followed;
+        self.is_tried = is_followed && self.quick == 0;
     }
 }
 

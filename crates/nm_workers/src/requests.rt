@@ -1,6 +1,6 @@
 //! A session's requests to its end: handed out to its workers, or done by the owner of its core,
 //! and answered as they are done.
-ghost use Rattle.std.specs.Prelude.{◌≡◌, ◌≤◌, ◌<◌, IfErr, IfSome, OnOk, IsSome, vec_len};
+ghost use Rattle.std.specs.Prelude.{◌≡◌, ◌≤◌, ◌<◌, IfErr, IfSome, OnOk, IsSome, IsTrue, vec_len};
 ghost use Rattle.nm_mailbox.specs.Ends.{received_by, IsSameInbox};
 ghost use Rattle.nm_session.specs.declared.serve_fault.ServeFault.TheVariants.{Memory};
 ghost use Rattle.nm_wire.specs.Export.{size_of};
@@ -25,6 +25,10 @@ use std::alloc::Global;
 use std::io::{Read, Write};
 use std::sync::Wait;
 use std::thread::Threads;
+
+// A payload of which so many bytes have not come is long: to read it takes about as long as to do
+// a short request.
+const LONG: usize = 16 * 1024;
 
 // A session that was served to its end, and what read its bytes.
 #[derive(Drop)]
@@ -109,7 +113,8 @@ fn dismiss<S, E: Extent, T: Target + Drop>(
 // A thread that reads is permitted to where no request is left, before the last one is given to a
 // worker: it mostly looks for the permit still then, and to give a job takes longer where a worker
 // has to be woken for it. An owner that reads does the last request itself, and reads where none is
-// left and all replies are sent.
+// left and all replies are sent. While a thread reads a long payload, the owner may do the request
+// before it.
 fn one_round<'s, S, E, R, I, O, T>(
     rt: &'s R,
     alloc: Global,
@@ -140,15 +145,15 @@ where
     }
     let pool = &mut dispatcher.pool;
     let why = hand_out(rt, alloc, &mut owner.core, &mut owner.log, pool)?;
-    note_request(&owner.core, dispatcher);
+    note_request(&owner.core, dispatcher, by);
     if is_to_switch(by, dispatcher, state) {
         return Ok(Round::SwitchReader(state));
     }
-    if by.is_owner() && dispatcher.pool.can_do_it_here() {
+    let state = permit_piece(rt, alloc, &owner.core, Lull { why, state }, dispatcher, by)?;
+    if is_done_here(&owner.core, dispatcher, by) {
         do_deferred(alloc, owner, dispatcher)?;
         return Ok(Round::Continue(state));
     }
-    let state = permit_piece(rt, alloc, &owner.core, Lull { why, state }, dispatcher, by)?;
     if submit_deferred(rt, alloc, &mut dispatcher.pool, owner.core.under_way()).is_err() {
         return Err(ServeFault::Memory);
     }
@@ -183,15 +188,37 @@ fn send_gathered<E: Extent, O: Write, T: Target + Drop>(
     Ok(Round::Continue(state))
 }
 
-// Notes whether the request that was read last is short and came alone.
-fn note_request<S, E: Extent, T: Target>(
+// Notes whether the request that was read last is short and came alone: nothing of the next one has
+// come; and whether a thread reads a long payload behind it, whose header has come.
+fn note_request<S, E: Extent, I: Read, T: Target>(
     core: &SessionCore,
     dispatcher: &mut Dispatcher<'_, WorkerPool<'_, '_, S, E, T>>,
+    by: &ReadBy<I, JobResult<E, T>>,
 ) {
     if dispatcher.pool.has_deferred() {
         let alone = core.under_way() == 1 && dispatcher.pool.can_do_it_here();
-        dispatcher.client.note(alone);
+        let missing = core.missing();
+        dispatcher.client.note(alone && missing == 0);
+        let is_followed = missing >= LONG && !by.is_owner();
+        dispatcher.client.note_payload(alone, is_followed);
     }
+}
+
+// Whether the owner does the request that is deferred: a short one, where it reads, or where a
+// thread reads a long payload behind it meanwhile, no other request is under way, and to do one
+// takes no longer than that.
+fn is_done_here<S, E: Extent, I: Read, T: Target>(
+    core: &SessionCore,
+    dispatcher: &Dispatcher<'_, WorkerPool<'_, '_, S, E, T>>,
+    by: &ReadBy<I, JobResult<E, T>>,
+) -> bool
+    ensures deferred { IsTrue result → IsSome dispatcher.now.pool.deferred }
+    ensures spare { IsTrue result → 0 < vec_len dispatcher.now.pool.idle.spare }
+{
+    if by.is_owner() || (core.under_way() == 1 && dispatcher.client.is_quick()) {
+        return dispatcher.pool.can_do_it_here();
+    }
+    false
 }
 
 // Whether another is to read from now on: the owner, where its client waits for each reply and its

@@ -32,8 +32,8 @@ returns-then-is_to_switch-clause-leads g c = (
   c.requires.known,
 )
 
-pub returns-then-can_do_it_here-clause-leads : goal.returns-then-can_do_it_here-clause-leads
-returns-then-can_do_it_here-clause-leads g c =
+pub returns-then-is_done_here-clause-leads : goal.returns-then-is_done_here-clause-leads
+returns-then-is_done_here-clause-leads g c =
     let heard = received_by c.args.owner.now.inbox in
     let output = g.O.Write.contents (device_of c.args.owner.now.sender) in
     let mid = moment c.hand_out.new.core c.hand_out.new.log in (
@@ -41,8 +41,9 @@ returns-then-can_do_it_here-clause-leads g c =
           (state_of g.O.Write.contents c.do_deferred.new.owner)
           (reads (moment c.args.owner.now.core c.args.owner.now.log) mid heard output c.in_ok-why.ensures.ok)
           c.in_ok-do_deferred.ensures.ok,
-      subst (λ (inbox : Inbox CalledValue). IsKnown c.args.state (received_by inbox)) (sym c.in_ok-do_deferred.ensures.inbox)
-          c.requires.known,
+      subst (λ (inbox : Inbox CalledValue). IsKnown c.in_ok-state.state (received_by inbox))
+          (sym c.in_ok-do_deferred.ensures.inbox)
+          (known_as c.in_ok-state.state c.args.state heard c.in_ok-state.ensures.ok c.requires.known),
     )
 
 pub returns-in_err-do_deferred-clause-leads : goal.returns-in_err-do_deferred-clause-leads
