@@ -82,9 +82,9 @@ impl SerialClient {
         };
     }
 
-    // Notes a request, beside which no other one is outstanding, or not, and behind which a thread
-    // reads a long payload, or not.
-    pub(crate) fn note_payload(&mut self, alone: bool, is_followed: bool) {
+    // Notes a request, which is short and came alone to a thread that reads, or not, and behind
+    // which that thread reads a long payload, or not. Whether to do the request takes no longer.
+    pub(crate) fn note_payload(&mut self, alone: bool, is_followed: bool) -> bool {
         self.quick = if alone && self.is_tried {
             QUICK
         } else {
@@ -92,6 +92,7 @@ impl SerialClient {
         };
         self.is_followed = is_followed;
         self.is_tried = is_followed && self.quick == 0;
+        self.is_quick()
     }
 }
 

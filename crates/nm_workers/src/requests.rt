@@ -188,8 +188,9 @@ fn send_gathered<E: Extent, O: Write, T: Target + Drop>(
     Ok(Round::Continue(state))
 }
 
-// Notes whether the request that was read last is short and came alone: nothing of the next one has
-// come; and whether a thread reads a long payload behind it, whose header has come.
+// Notes whether the request that was read last is short and came alone, and whether a thread reads a
+// long payload behind it, whose header has come. One that is done meanwhile says nothing of whether
+// its client waits.
 fn note_request<S, E: Extent, I: Read, T: Target>(
     core: &SessionCore,
     dispatcher: &mut Dispatcher<'_, WorkerPool<'_, '_, S, E, T>>,
@@ -197,10 +198,12 @@ fn note_request<S, E: Extent, I: Read, T: Target>(
 ) {
     if dispatcher.pool.has_deferred() {
         let alone = core.under_way() == 1 && dispatcher.pool.can_do_it_here();
-        let missing = core.missing();
-        dispatcher.client.note(alone && missing == 0);
-        let is_followed = missing >= LONG && !by.is_owner();
-        dispatcher.client.note_payload(alone, is_followed);
+        let by_thread = !by.is_owner();
+        let is_followed = by_thread && core.missing() >= LONG;
+        let is_quick = dispatcher
+            .client
+            .note_payload(alone && by_thread, is_followed);
+        dispatcher.client.note(alone && !is_quick);
     }
 }
 
