@@ -34,7 +34,7 @@ const MOST: u16 = 1024;
 
 // How many requests the owner does while long payloads are read, before a worker has to show anew
 // that to do one takes no longer.
-const QUICK: u8 = 64;
+const QUICK: u8 = 32;
 
 // How many requests in a row were short and came alone: no other one was outstanding then. A client
 // that waits for each reply before it sends the next request is serial.
