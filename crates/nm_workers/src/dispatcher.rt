@@ -32,16 +32,18 @@ const ENOUGH: u16 = 16;
 // replies is noticed.
 const MOST: u16 = 1024;
 
-// How many requests the owner does while long payloads are read, before a worker has to show anew
-// that to do one takes no longer.
-const QUICK: u8 = 32;
+// How many requests the owner does while long payloads are read, none of which shows that to do one
+// takes no longer.
+const QUICK: u8 = 16;
 
 // How many requests in a row were short and came alone: no other one was outstanding then. A client
 // that waits for each reply before it sends the next request is serial.
 //
 // Of a client that sends long payloads in a row: how many more requests the owner does, each while
-// the payload behind it is read. As many as may be, once one that a worker did was answered before
-// the payload behind it had come: to hand them on would take longer than to do them.
+// the payload behind it is read. To hand them on would take longer than to do them, where they take
+// no longer than that: a worker's was answered before the payload had come, or the owner had to
+// wait for it after its own. As long as neither is so, they are the workers', as many at once as
+// there are.
 #[derive(Clone, Copy, Drop)]
 pub struct SerialClient {
     alone: u16,
@@ -82,10 +84,16 @@ impl SerialClient {
         };
     }
 
-    // Notes a request, which is short and came alone to a thread that reads, or not, and behind
-    // which that thread reads a long payload, or not. Whether to do the request takes no longer.
-    pub(crate) fn note_payload(&mut self, alone: bool, is_followed: bool) -> bool {
-        self.quick = if alone && self.is_tried {
+    // Notes a request, which is short and came alone to a thread that reads, or not, behind which
+    // that thread reads a long payload, or not, and whose own was there as soon as it was waited
+    // for, or not. Whether to do the request takes no longer.
+    pub(crate) fn note_payload(&mut self, alone: bool, is_followed: bool, was_there: bool) -> bool {
+        let is_shown = if self.is_quick() {
+            !was_there
+        } else {
+            self.is_tried
+        };
+        self.quick = if alone && is_shown {
             QUICK
         } else {
             self.quick.saturating_sub(1)

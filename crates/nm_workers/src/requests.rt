@@ -200,9 +200,10 @@ fn note_request<S, E: Extent, I: Read, T: Target>(
         let alone = core.under_way() == 1 && dispatcher.pool.can_do_it_here();
         let by_thread = !by.is_owner();
         let is_followed = by_thread && core.missing() >= LONG;
+        let was_there = dispatcher.spin_wait.was_there;
         let is_quick = dispatcher
             .client
-            .note_payload(alone && by_thread, is_followed);
+            .note_payload(alone && by_thread, is_followed, was_there);
         dispatcher.client.note(alone && !is_quick);
     }
 }

@@ -130,6 +130,9 @@ pub struct SpinWait<'a> {
     for_pieces: Backoff,
     for_outcomes: Backoff,
     for_bytes: Backoff,
+    // Whether the last message was there as soon as it was waited for, while no request was under
+    // way.
+    pub(crate) was_there: bool,
 }
 
 impl<'a> SpinWait<'a> {
@@ -140,6 +143,7 @@ impl<'a> SpinWait<'a> {
             for_pieces: Backoff::new(),
             for_outcomes: Backoff::new(),
             for_bytes: Backoff::new(),
+            was_there: false,
         }
     }
 
@@ -155,6 +159,13 @@ impl<'a> SpinWait<'a> {
         ensures none { IfNone result (received_by inbox.new ≡ received_by inbox.old) }
         ensures channel { IsSameInbox inbox.new inbox.old }
     {
+        self.was_there = false;
+        if under_way == 0 {
+            if let Some(message) = inbox.try_recv(rt) {
+                self.was_there = true;
+                return Some(message);
+            }
+        }
         let token = self.token;
         let backoff = match under_way {
             0 => &mut self.for_pieces,
