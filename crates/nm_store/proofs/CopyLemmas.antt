@@ -12,20 +12,23 @@ use Rattle.nm_replay.specs.declared.block.Block.{Block}
 use Rattle.nm_leg.specs.Leg.{LegType}
 use Rattle.nm_rules.specs.RunCalls.{ReadsRunAt, WritesRunAt}
 use Rattle.nm_regions.specs.declared.copy_place.CopyPlace.{CopyPlace}
-use Rattle.nm_regions.specs.Changes.{advanced, cleared_for, moved, region_finished}
-use Rattle.nm_regions.specs.LegFlags.{no_leg}
+use Rattle.nm_choice.specs.declared.leg_state.LegState.{LegState}
+use Rattle.nm_regions.specs.Changes.{advanced, cleared_for, copy_opened, moved, region_finished}
+use Rattle.nm_regions.specs.LegFlags.{LegRegions, no_leg}
 use Rattle.nm_regions.specs.Sound.{IsRegionTable}
 use Rattle.nm_regions.specs.Table.{RegionTable, copy_rest, leg_at, next_behind, length_of, regions_of}
 use Rattle.nm_resync.specs.Chunk.{IsChunk, length_of as chunk_blocks}
+use Rattle.nm_resync.specs.Moves.{after_write, closed_by_write}
 use Rattle.nm_rules.specs.Copy.{GoesOn, chunk_of, chunk_or, copy_cause, copy_more_cause, copy_of, chunk_copied, has_more, is_of, new_chunk}
 use Rattle.nm_rules.specs.Invariant.{IsCopy, Keeps}
-use Rattle.nm_rules.specs.State.{StripeState, Chunk, table}
+use Rattle.nm_rules.specs.RunCopy.{after_copy_write_run}
+use Rattle.nm_rules.specs.State.{StripeState, Chunk, is_out as leg_is_out, table}
 use Rattle.nm_rules.proofs.ChunkLemmas.{copy-is}
 use Rattle.nm_rules.proofs.CopyLemmas.{may_copy, region-some}
 use Rattle.nm_rules.proofs.CopySteps.{goes-ready}
 use Rattle.nm_rules.proofs.StateLemmas.{joining_inside}
 use Rattle.nm_store.specs.CopyPlace.{FailsAt, GoesOnAt, ReadsAt}
-use Rattle.nm_store.specs.Copying.{FailsToCopy, MovesRun, ReadsToCopy, unread}
+use Rattle.nm_store.specs.Copying.{FailsToCopy, MayOpen, MovesRun, ReadsToCopy, closed_after, open_for, unread}
 
 -- a place before the end of a region is in one of the regions
 pub region-inside : (t : RegionTable) (region cursor : ℕ) → IsRegionTable t → cursor < length_of region t → region < length t.writes
@@ -187,15 +190,6 @@ open-at s from copy some is = by s.copy _ some is
     by None low shut e = cc
     by (Some c) low shut e = e
 
--- a chunk that closes is written to its end, and one that does not is not
-pub closes : (v : Bool) (l b : ℕ) → (let o : Option ℕ = cond v (Some l) None in o) ≡ Some b → (v ≡ true) × (b ≡ l)
-closes true l b is = (refl, sym (same_Some l b is))
-closes false l b is = cc
-
-pub stays-open : (v : Bool) (l : ℕ) → (let o : Option ℕ = cond v (Some l) None in o) ≡ None → v ≡ false
-stays-open true l is = cc
-stays-open false l is = refl
-
 -- a step at its place, in the words of the leg and the lowest region that were asked for
 module _ {L : Type 0} (type : LegType L) (s new : StripeState L) (leg most from : ℕ) (copy : CopyPlace) (k : Keeps type s) (on : GoesOn s leg from copy (chunk_of copy s)) where
   own : copy.leg ≡ leg
@@ -209,3 +203,53 @@ module _ {L : Type 0} (type : LegType L) (s new : StripeState L) (leg most from 
 
   pub fails-of : {T : Type 0} (r : Result T ℕ) → IfErr r (FailsAt type s new copy most) → IfErr r (FailsToCopy type s new leg most from)
   fails-of r err = IfErr-weaker r (FailsAt type s new copy most) (FailsToCopy type s new leg most from) (λ gone fails. subst (λ (j : ℕ). FailsToCopy type s new j most from gone) own (fails from at)) err
+
+-- a copy that goes on at its place may open there
+pub may-open : {L : Type 0} (type : LegType L) (s : StripeState L) (copy : CopyPlace) (from : ℕ) → Keeps type s → GoesOnAt copy from s → MayOpen copy.leg copy.region (table s)
+may-open type s copy from k on =
+    let inside = asked-inside type s copy.leg k on.no_cause in
+    let is = goes-copy type s copy.leg k on.no_cause from copy on.copy_is in
+    record {
+      leg = omega (arith, inside, k.legs.flags);
+      attached = k.legs.outs copy.leg ∙ ap (λ (st : LegState). leg_is_out st) is.joining;
+      behind = is.behind;
+    }
+
+-- the state once the copy that goes on is open
+pub opened-state : {L : Type 0} (s : StripeState L) (legs : List L) (t : RegionTable) (from : ℕ) (copy : CopyPlace) (chunk : Option Chunk) → t.copy ≡ s.copy → t.legs ≡ s.flags → copy_of copy.leg from s ≡ Some copy
+    → (let u : StripeState L = record s { legs = legs; flags = (open_for copy.leg copy.region t).legs; copy = (open_for copy.leg copy.region t).copy; chunk = chunk } in u)
+    ≡ (let u : StripeState L = record s { legs = legs; copy = Some copy; chunk = chunk } in u)
+opened-state {L} s legs t from copy chunk same_copy same_flags is =
+    let with_flags : List LegRegions → Option CopyPlace → StripeState L = λ flags o. record s { legs = legs; flags = flags; copy = o; chunk = chunk } in
+    (elim (is_none t.copy) as (λ b. is_none t.copy ≡ b → (let u : RegionTable = cond b (copy_opened copy.leg copy.region t) t in with_flags u.legs u.copy) ≡ with_flags s.flags (Some copy)) [
+      | true ↦ λ none.
+          ap (λ (flags : List LegRegions). with_flags flags (Some (record { leg = copy.leg; region = copy.region; cursor = 0 }))) same_flags
+          ∙ ap (λ (o : Option CopyPlace). with_flags s.flags o) (opens-at s from copy (ap (λ (o : Option CopyPlace). is_none o) (sym same_copy) ∙ none) is)
+      | false ↦ λ some.
+          ap (λ (flags : List LegRegions). with_flags flags t.copy) same_flags
+          ∙ ap (λ (o : Option CopyPlace). with_flags s.flags o) (same_copy ∙ open-at s from copy (ap (λ (o : Option CopyPlace). is_none o) (sym same_copy) ∙ some) is)
+    ]) refl
+
+-- the state once so many of the chunk's blocks are written
+pub written-state : {L : Type 0} (s : StripeState L) (legs : List L) (chunk : Chunk) (count : ℕ)
+    → (let u : StripeState L = record s { legs = legs; flags = (closed_after (closed_by_write count (Some chunk)) (table s)).legs; copy = (closed_after (closed_by_write count (Some chunk)) (table s)).copy; chunk = after_write count (Some chunk) } in u)
+    ≡ after_copy_write_run s legs chunk count
+written-state {L} s legs chunk count =
+    let shut : StripeState L = record s { legs = legs; flags = (chunk_copied chunk.length (table s)).legs; copy = (chunk_copied chunk.length (table s)).copy; chunk = None } in
+    let still : StripeState L = record s { legs = legs; chunk = Some (record chunk { written = chunk.written + count }) } in
+    let left : Bool → StripeState L = λ b. record s {
+      legs = legs;
+      flags = (closed_after (cond b (Some chunk.length) None) (table s)).legs;
+      copy = (closed_after (cond b (Some chunk.length) None) (table s)).copy;
+      chunk = cond b None (Some (record chunk { written = chunk.written + count }));
+    } in
+    elim (chunk.written + count == chunk.length) as (λ b. left b ≡ cond b shut still) [ true ↦ refl | false ↦ refl ]
+
+-- a region table once a chunk has closed, if one did
+pub closed-table : (o : Option ℕ) (t new : RegionTable) → new ≡ closed_after o t → new ≡ record { blocks = t.blocks; region = t.region; legs = new.legs; writes = t.writes; copy = new.copy }
+closed-table None t new is = is ∙ ap (λ (u : RegionTable). let v : RegionTable = record { blocks = t.blocks; region = t.region; legs = u.legs; writes = t.writes; copy = u.copy } in v) (sym is)
+closed-table (Some blocks) t new is = copied-table blocks t new is
+
+pub closed-legs : (o : Option ℕ) (t : RegionTable) → length (closed_after o t).legs ≡ length t.legs
+closed-legs None t = refl
+closed-legs (Some blocks) t = copied-legs blocks t

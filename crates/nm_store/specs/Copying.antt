@@ -1,12 +1,14 @@
 -- What a step of a copy answers, and one whose call failed.
-use Rattle.std.specs.Prelude.{◌≡◌, ◌⊎◌, ℕ, ◌==◌, if◌then◌else◌, [], List, false, length}
-use Rattle.std.specs.Prelude.{Option, None, Some}
+use Rattle.std.specs.Prelude.{◌≡◌, ◌⊎◌, ℕ, ◌<◌, ◌==◌, if◌then◌else◌, [], List, false, length}
+use Rattle.std.specs.Prelude.{IsFalse, IsTrue, Option, None, Some, is_none}
 use Rattle.std.specs.Option.{option_or}
 use Rattle.nm_replay.specs.declared.block.Block.{Block}
 use Rattle.nm_leg.specs.Leg.{LegType}
 use Rattle.nm_regions.specs.declared.copy_place.CopyPlace.{CopyPlace}
-use Rattle.nm_regions.specs.Table.{next_behind}
-use Rattle.nm_rules.specs.Copy.{GoesOn}
+use Rattle.nm_regions.specs.Changes.{copy_opened}
+use Rattle.nm_regions.specs.LegFlags.{is_behind}
+use Rattle.nm_regions.specs.Table.{RegionTable, is_out, leg_at, next_behind}
+use Rattle.nm_rules.specs.Copy.{GoesOn, chunk_copied}
 use Rattle.nm_rules.specs.RunCopy.{CallsToCopyReadRun, CallsToCopyWriteRun, CopiesReadRun}
 use Rattle.nm_rules.specs.RunCopy.{CopiesWriteRun, next_blocks}
 use Rattle.nm_rules.specs.State.{StripeState, Chunk, table}
@@ -25,6 +27,21 @@ next_region leg from stripe =
 -- a chunk of so many blocks, of which none is read
 abbrev pub unread : ℕ → Chunk
 unread blocks = record { length = blocks; blocks = []; written = 0 }
+
+-- a copy to this leg may open in this region: the leg is attached, and behind there
+pub record MayOpen (leg region : ℕ) (t : RegionTable) : Type 0 where
+  pub leg : leg < length t.legs
+  pub attached : IsFalse (is_out leg t)
+  pub behind : IsTrue (is_behind region (leg_at leg t))
+
+-- the regions once a copy is open: one to this leg in this region, where none was
+abbrev pub open_for : (leg region : ℕ) → RegionTable → RegionTable
+open_for leg region t = if is_none t.copy then copy_opened leg region t else t
+
+-- the regions once a chunk has closed, if one did: so many blocks more are copied
+abbrev pub closed_after : Option ℕ → RegionTable → RegionTable
+closed_after None t = t
+closed_after (Some blocks) t = chunk_copied blocks t
 
 -- a step that read so many blocks
 pub record ReadsToCopy {L : Type 0} (type : LegType L) (old new : StripeState L)

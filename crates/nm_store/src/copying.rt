@@ -4,8 +4,10 @@ ghost use Rattle.std.specs.Prelude.{None, Some, IsFalse, IfOk, IfErr};
 ghost use Rattle.std.specs.Option.{option_map};
 ghost use Rattle.nm_leg.specs.Leg.{cut_into, leg_type};
 ghost use Rattle.nm_regions.specs.Table.{length_of, is_out, copy_rest};
-ghost use Rattle.nm_resync.specs.Chunk.{blocks_of};
-ghost use Rattle.nm_resync.specs.Moves.{Reads, next_move, after_read};
+ghost use Rattle.nm_resync.specs.Chunk.{blocks_of, written_of};
+ghost use Rattle.nm_resync.specs.Chunk.{length_of as blocks_of_chunk};
+ghost use Rattle.nm_resync.specs.Moves.{IsWrite, Reads, next_move, after_read, after_write};
+ghost use Rattle.nm_resync.specs.Moves.{closed_by_write};
 ghost use Rattle.nm_rules.specs.RunCalls.{ReadsRunAt};
 ghost use Rattle.nm_rules.specs.declared.refusal.Refusal.TheVariants.{Busy};
 ghost use Rattle.nm_rules.specs.Copy.{copy_cause, copy_more_cause, copy_of, has_more, chunk_of};
@@ -13,7 +15,8 @@ ghost use Rattle.nm_rules.specs.Copy.{chunk_copied, chunk_or, new_chunk, busy_ne
 ghost use Rattle.nm_rules.specs.Invariant.{Keeps};
 ghost use Rattle.nm_rules.specs.State.{table};
 ghost use Rattle.nm_store.specs.BlockCalls.{HasBlocks};
-ghost use Rattle.nm_store.specs.Copying.{FailsToCopy, MovesRun, next_region, unread};
+ghost use Rattle.nm_store.specs.Copying.{FailsToCopy, MayOpen, MovesRun, closed_after, next_region};
+ghost use Rattle.nm_store.specs.Copying.{open_for, unread};
 ghost use Rattle.nm_store.specs.CopyPlace.{FailsAt, IsCopyPlace, ReadsAt, WritesAt};
 
 use crate::store::Store;
@@ -136,10 +139,7 @@ impl<L: LegPart> Store<L> {
         if read_slots(&mut self.legs, self.master, at, &mut self.buffer, count).is_err() {
             return Err(self.master);
         }
-        keep_slots(&mut self.buffer, blocks, count);
-        if self.regions.copy().is_none() {
-            self.regions.open_copy(copy.leg, copy.region);
-        }
+        answer_copy_read(&mut self.buffer, &mut self.regions, copy, blocks, count);
         Ok(count)
     }
 
@@ -164,9 +164,7 @@ impl<L: LegPart> Store<L> {
         if write_leg_at(&mut self.legs, copy.leg, at, bytes).is_err() {
             return Err(copy.leg);
         }
-        if let Some(blocks) = self.buffer.wrote(count) {
-            end_chunk(&mut self.regions, copy, blocks);
-        }
+        answer_copy_write(&mut self.buffer, &mut self.regions, copy, count);
         Ok(count)
     }
 
@@ -230,6 +228,50 @@ fn keep_slots(buffer: &mut CopyBuffer, blocks: u64, count: u64)
         buffer.open(blocks);
     }
     buffer.fill(count);
+}
+
+/// Takes the answer of the read of a copy at this place, which left so many blocks in the buffer's
+/// places: the chunk has them, and where no copy is open this one opens.
+fn answer_copy_read(
+    buffer: &mut CopyBuffer,
+    regions: &mut Regions,
+    copy: CopyPlace,
+    blocks: u64,
+    count: u64,
+)
+    requires reads { Reads (next_move buffer.old) }
+    requires some { 0 < blocks }
+    requires most { blocks ≤ buffer.old.most }
+    requires within { let chunk = chunk_or buffer.old.chunk (unread blocks) in
+        length chunk.blocks + count ≤ chunk.length }
+    requires place { regions.old.copy ≡ None → MayOpen copy.leg copy.region regions.old }
+    ensures kept { buffer.new.chunk ≡ after_read (cut_into count buffer.old.rest)
+        (Some (chunk_or buffer.old.chunk (unread blocks))) }
+    ensures most { buffer.new.most ≡ buffer.old.most }
+    ensures opened { regions.new ≡ open_for copy.leg copy.region regions.old }
+{
+    keep_slots(buffer, blocks, count);
+    if regions.copy().is_none() {
+        regions.open_copy(copy.leg, copy.region);
+    }
+}
+
+/// Takes the answer of the write of a copy at this place: so many of the chunk's next blocks are
+/// written. With its last block the chunk closes.
+fn answer_copy_write(buffer: &mut CopyBuffer, regions: &mut Regions, copy: CopyPlace, count: u64)
+    requires writes { IsWrite (next_move buffer.old) }
+    requires within { written_of buffer.old.chunk + count ≤ blocks_of_chunk buffer.old.chunk }
+    requires open { regions.old.copy ≡ Some copy }
+    requires place { copy.cursor < length_of copy.region regions.old }
+    requires rest { blocks_of_chunk buffer.old.chunk ≤ copy_rest regions.old }
+    ensures written { buffer.new.chunk ≡ after_write count buffer.old.chunk }
+    ensures most { buffer.new.most ≡ buffer.old.most }
+    ensures closed { regions.new
+        ≡ closed_after (closed_by_write count buffer.old.chunk) regions.old }
+{
+    if let Some(blocks) = buffer.wrote(count) {
+        end_chunk(regions, copy, blocks);
+    }
 }
 
 /// A chunk of so many blocks of this copy's region is copied. Where that was its last one, the
