@@ -44,6 +44,10 @@ pub enum Refusal {
     Astray,
     /// A superblock could not be saved.
     SaveFailed,
+    /// As many reads are out as may be: one more is handed out once one of them is answered.
+    ManyReads,
+    /// Calls of the leg are out still: it joins again once they have returned.
+    CallsOut,
 }
 
 impl Refusal {
@@ -69,6 +73,8 @@ impl Refusal {
             Refusal::NotJoining => 15,
             Refusal::Astray => 17,
             Refusal::SaveFailed => 18,
+            Refusal::ManyReads => 19,
+            Refusal::CallsOut => 20,
         }
     }
 }
@@ -95,6 +101,8 @@ impl fmt::Display for Refusal {
             Refusal::NotJoining => f.write_str("15 NotJoining"),
             Refusal::Astray => f.write_str("17 Astray"),
             Refusal::SaveFailed => f.write_str("18 SaveFailed"),
+            Refusal::ManyReads => f.write_str("19 ManyReads"),
+            Refusal::CallsOut => f.write_str("20 CallsOut"),
         }
     }
 }
