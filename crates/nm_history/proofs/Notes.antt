@@ -3,7 +3,7 @@ use Rattle.std.proofs.Common.{◌≡◌, ℕ, List, [], ◌∷◌, ◌++◌, ref
 use Rattle.std.proofs.lemmas.List.{append-nil}
 use Rattle.nm_leg.specs.Leg.{LegType}
 use Rattle.nm_history.specs.declared.transition.Noted.{Noted}
-use Rattle.nm_history.specs.declared.transition.Noted.TheVariants.{Asked, Moved}
+use Rattle.nm_history.specs.declared.transition.Noted.TheVariants.{Asked, Heard, Moved}
 use Rattle.nm_history.specs.declared.transition.Transition.{Transition}
 use Rattle.nm_history.specs.History.{LegalMoves}
 use Rattle.nm_history.specs.Notes.{LegalNotes, moves_of}
@@ -12,6 +12,7 @@ pub moves-append : {L : Type 0} (xs ys : List (Noted L)) → moves_of (xs ++ ys)
 moves-append [] ys = refl
 moves-append {L} (Moved t ∷ xs) ys = ap (λ (l : List (Transition L)). t ∷ l) (moves-append xs ys)
 moves-append (Asked index payload ∷ xs) ys = moves-append xs ys
+moves-append (Heard place ∷ xs) ys = moves-append xs ys
 
 module _ {L : Type 0} (type : LegType L) (number : ℕ) (list : List (Noted L)) where
   -- a transition more
@@ -21,3 +22,7 @@ module _ {L : Type 0} (type : LegType L) (number : ℕ) (list : List (Noted L)) 
   -- a request more
   pub asked-legal : (index : ℕ) (payload : List ℕ) → LegalNotes type number list → LegalNotes type number (list ++ Asked index payload ∷ [])
   asked-legal index payload legal = subst (λ (l : List (Transition L)). LegalMoves type number l) (sym (moves-append list (Asked index payload ∷ []) ∙ append-nil (moves_of list))) legal
+
+  -- a note more of what was heard
+  pub heard-legal : (place : ℕ) → LegalNotes type number list → LegalNotes type number (list ++ Heard place ∷ [])
+  heard-legal place legal = subst (λ (l : List (Transition L)). LegalMoves type number l) (sym (moves-append list (Heard place ∷ []) ∙ append-nil (moves_of list))) legal

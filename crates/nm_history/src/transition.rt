@@ -28,15 +28,18 @@ pub struct Transition<L: LegPart> {
     pub to: GatedStripe<L>,
 }
 
-/// What is noted in the log of a mirror: a transition of a stripe, or that a session's request
-/// came, with its index among those of the session, and its payload. No value of it is made.
+/// What is noted in the log of a mirror. No value of it is made.
 pub enum Noted<L: LegPart> {
+    /// A transition of a stripe.
     Moved(Transition<L>),
+    /// A session's request came, with its index among those of the session, and its payload.
     Asked(u64, Bytes),
+    /// A pass took in a beginning of the log, of so many entries.
+    Heard(u64),
 }
 
-/// Which lists of entries are legal in the shard of each number, of a stripe on legs of this type
-/// or of a session.
+/// Which lists of entries are legal in the shard of each number, of a stripe on legs of this type,
+/// of a session or of a pass.
 pub struct Legal<L> {
     of: PhantomData<L>,
 }

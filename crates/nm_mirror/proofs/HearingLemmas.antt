@@ -1,17 +1,24 @@
 -- What lanes hear, one after the other, and what stands behind it.
-use Rattle.std.proofs.Common.{◌≡◌, ℕ, ◌+◌, ◌<◌, List, [], ◌∷◌, ◌++◌, length, take, drop, set, get_or, append_assoc, refl, sym, ap, subst, ◌∙◌, arith}
+use Rattle.std.specs.Prelude.{All, Some}
+use Rattle.std.proofs.Common.{◌≡◌, ℕ, ◌+◌, ◌<◌, List, [], ◌∷◌, ◌++◌, length, map, take, drop, set, get_or, append_assoc, refl, sym, ap, subst, ◌∙◌, arith}
 use Rattle.std.proofs.lemmas.List.{append-nil, drop-set-lt, drop_all, drop_more, take_all, take_more, take_more_set}
 use Rattle.std.proofs.lemmas.List.Elements.{All-cons, All-more, All-nil, All-weaker}
 use mathlib.Core.List.{IsPrefix}
 use Rattle.nm_book.specs.declared.rule.Entry.{Entry}
-use Rattle.nm_book.specs.Log.{SeesOn}
-use Rattle.nm_book.proofs.Lists.{prefix_trans}
+use Rattle.nm_book.specs.Log.{KeeperView, NotesOn, PassView, SeesOn, calls_by, entry, whats}
+use Rattle.nm_book.proofs.Lists.{prefix_trans, whats_longer}
 use Rattle.nm_history.specs.declared.transition.Noted.{Noted}
+use Rattle.nm_history.specs.declared.transition.Noted.TheVariants.{Heard, Moved}
+use Rattle.nm_history.specs.declared.transition.Transition.{Transition}
 use Rattle.nm_history.specs.Notes.{LegalNotes}
+use Rattle.nm_history.proofs.Notes.{heard-legal}
+use Rattle.nm_lanes.specs.Done.{Done}
 use Rattle.nm_leg.specs.Leg.{LegType}
-use Rattle.nm_mirror.specs.Hearing.{EachBecomes, HaveHeard, HaveTold, HeardCallsComeFirst, LaneHears, Waits}
-use Rattle.nm_mirror.specs.Joining.{lane-joined, lane-stays}
+use Rattle.nm_mirror.specs.Counting.{Follows}
+use Rattle.nm_mirror.specs.Hearing.{EachBecomes, HasHeard, HaveHeard, HaveTold, HeardCallsComeFirst, IsMove, JustHeard, LaneHears, Waits}
+use Rattle.nm_mirror.specs.Joining.{lane-joined, lane-stays, notes-append}
 use Rattle.nm_mirror.specs.LaneState.{LaneState}
+use Rattle.nm_mirror.specs.Trail.{HasHistory, NotesAll, entries}
 
 -- a list of which all elements were lent, and came back
 pub all-back : {A : Type 0} (olds news : List A) (n : ℕ) → length news ≡ length olds → n ≡ length olds → take n (news ++ drop (length news) olds) ≡ news
@@ -61,51 +68,66 @@ module _ {A : Type 0} (so : A → A → Type 0) where
       )
 
 module _ {L : Type 0} (type : LegType L) where
-  -- a lane of which the pass sees the log go on waits
-  pub lane-waits : (old new : LaneState L) → new.part ≡ old.part → SeesOn (LegalNotes type) old.pass new.pass → Waits type old new
-  lane-waits old new part sees = record {
-    counted = part;
-    made = [];
-    noted = refl;
-    log = record {
-      more = sees.more;
-      who = sees.who;
-      seen = sees.seen;
-      own = sees.own;
-      mine = sees.mine ∙ sym (append-nil old.pass.mine);
-      is_legal = λ legal. sees.is_legal;
-    };
-  }
-
   pub waits-self : (lane : LaneState L) → Waits type lane lane
   waits-self lane = lane-stays type lane
 
   pub waits-on : (old mid new : LaneState L) → Waits type old mid → Waits type mid new → Waits type old new
   waits-on old mid new here there = lane-joined type old mid new [] [] here there
 
-  -- lanes that hear wait
-  pub hears-waits : (told : List (Entry (Noted L))) (olds news : List (LaneState L)) → EachBecomes (LaneHears type told) olds news → EachBecomes (Waits type) olds news
-  hears-waits told [] [] each = tt
-  hears-waits told [] (y ∷ news) each = absurd each
-  hears-waits told (x ∷ olds) [] each = absurd each
-  hears-waits told (x ∷ olds) (y ∷ news) each = (each.0.waits, hears-waits told olds news each.1)
+  -- a pass that sees the log go on, and then notes these, notes these
+  sees-notes : (shard : ℕ) (list : List (Noted L)) (old mid new : PassView (Noted L)) → SeesOn (LegalNotes type) old mid → NotesAll (LegalNotes type) shard list mid new → NotesAll (LegalNotes type) shard list old new
+  sees-notes shard list old mid new sees notes = notes-append (LegalNotes type) shard [] list old mid new (record {
+    more = sees.more;
+    who = sees.who;
+    seen = sees.seen;
+    own = sees.own;
+    mine = sees.mine ∙ sym (append-nil old.mine);
+    is_legal = λ legal. sees.is_legal;
+  }) notes
 
-  -- and have heard it
-  pub hears-heard : (told : List (Entry (Noted L))) (olds news : List (LaneState L)) → EachBecomes (LaneHears type told) olds news → HaveHeard news told
-  hears-heard told [] [] each = All-nil (λ (lane : LaneState L). IsPrefix told lane.pass.seen)
+  -- a lane of which the pass takes in what was told, and then notes that, hears it
+  pub lane-hears : (told : List (Entry (Noted L))) (shard : ℕ) (old new : LaneState L) (mid : PassView (Noted L)) → new.part ≡ old.part → SeesOn (LegalNotes type) old.pass mid
+      → NotesAll (LegalNotes type) shard (Heard (length told) ∷ []) mid new.pass → JustHeard told new.pass → LaneHears type told old new
+  lane-hears told shard old new mid part sees notes heard = record {
+    part = part;
+    shard = shard;
+    notes = sees-notes shard (Heard (length told) ∷ []) old.pass mid new.pass sees notes;
+    heard = heard;
+  }
+
+  -- the note that it heard is the last that a pass has seen
+  pub just-heard : (told : List (Entry (Noted L))) (keeper : KeeperView (Noted L)) (old new : PassView (Noted L)) → IsPrefix told old.seen → NotesOn (LegalNotes type) keeper (Heard (length told)) old new → JustHeard told new
+  just-heard told keeper old new part on = record {
+    before = old.seen ++ on.between;
+    shard = keeper.shard;
+    is = on.seen ∙ ap (λ (who : ℕ). (old.seen ++ on.between) ++ entry who keeper.shard (Heard (length told)) ∷ []) (sym on.who);
+    takes_in = prefix_trans told old.seen (old.seen ++ on.between) part (on.between, refl);
+  }
+
+  -- a keeper that notes it has what is legal
+  pub heard-has : (keeper back : KeeperView (Noted L)) (who place : ℕ) → back.shard ≡ keeper.shard → back.all ≡ keeper.all ++ entry who keeper.shard (Heard place) ∷ [] → HasHistory type (Some keeper) → HasHistory type (Some back)
+  heard-has keeper back who place shard all has =
+      subst (λ (s : ℕ). LegalNotes type s (whats back.all)) (sym shard)
+      (subst (λ (l : List (Noted L)). LegalNotes type keeper.shard l)
+      (sym (ap (λ (l : List (Entry (Noted L))). whats l) all ∙ whats_longer keeper.all (entry who keeper.shard (Heard place))))
+      (heard-legal type keeper.shard (whats keeper.all) place has))
+
+  -- lanes that hear it have heard it
+  pub hears-heard : (told : List (Entry (Noted L))) (olds news : List (LaneState L)) → EachBecomes (LaneHears type told) olds news → HaveHeard type news told
+  hears-heard told [] [] each = All-nil (λ (lane : LaneState L). HasHeard type told lane)
   hears-heard told [] (y ∷ news) each = absurd each
   hears-heard told (x ∷ olds) [] each = absurd each
-  hears-heard told (x ∷ olds) (y ∷ news) each = All-cons (λ (lane : LaneState L). IsPrefix told lane.pass.seen) y news each.0.heard (hears-heard told olds news each.1)
+  hears-heard told (x ∷ olds) (y ∷ news) each =
+      All-cons (λ (lane : LaneState L). HasHeard type told lane) y news (record { as_it_heard = y; heard = each.0.heard; steps = []; follows = lane-stays type y }) (hears-heard told olds news each.1)
 
-  -- what was heard with more was heard
-  pub hears-part : (told more : List (Entry (Noted L))) → IsPrefix told more → (olds news : List (LaneState L)) → EachBecomes (LaneHears type more) olds news → EachBecomes (LaneHears type told) olds news
-  hears-part told more part [] [] each = tt
-  hears-part told more part [] (y ∷ news) each = absurd each
-  hears-part told more part (x ∷ olds) [] each = absurd each
-  hears-part told more part (x ∷ olds) (y ∷ news) each = (
-    record { waits = each.0.waits; heard = prefix_trans told more y.pass.seen part each.0.heard },
-    hears-part told more part olds news each.1,
-  )
+  -- and have so after steps
+  pub heard-on : (told : List (Entry (Noted L))) (lane new : LaneState L) (list : List (Done L)) → HasHeard type told lane → Follows type lane list new → HasHeard type told new
+  heard-on told lane new list has follows = record {
+    as_it_heard = has.as_it_heard;
+    heard = has.heard;
+    steps = has.steps ++ list;
+    follows = lane-joined type has.as_it_heard lane new has.steps list has.follows follows;
+  }
 
   -- the next lane tells what it has seen
   pub told-step : (lanes : List (LaneState L)) (i : ℕ) (d : LaneState L) (old new : List (Entry (Noted L))) → i < length lanes → HaveTold (take i lanes) old → IsPrefix old new → IsPrefix (get_or lanes i d).pass.seen new
@@ -115,25 +137,39 @@ module _ {L : Type 0} (type : LegType L) where
       (All-weaker (λ (lane : LaneState L). IsPrefix lane.pass.seen old) (λ (lane : LaneState L). IsPrefix lane.pass.seen new)
       (λ lane is. prefix_trans lane.pass.seen old new is on) (take i lanes) before) here
 
-  -- what a lane does stands behind what it had heard
+  -- entries of transitions
+  all-moves : (by shard : ℕ) (made : List (Transition L)) → All IsMove (entries by shard (map (λ (t : Transition L). Moved t) made))
+  all-moves by shard [] = All-nil IsMove
+  all-moves by shard (t ∷ made) = All-cons IsMove (entry by shard (Moved t)) (entries by shard (map (λ (t : Transition L). Moved t) made)) (t, refl) (all-moves by shard made)
+
+  -- what a lane does stands behind the note that it heard
   pub heard-first : HeardCallsComeFirst type
-  heard-first session index payload asked told old new list come heard follows within =
-      let log = follows.log in record {
-        before = come.before;
-        who = come.who;
-        between = heard.0;
+  heard-first session index payload asked told old new list come has follows within =
+      let was = has.as_it_heard.pass in
+      let log = follows.log in
+      let between = has.follows.log.more in
+      let since = has.heard.takes_in.0 in
+      let note : Entry (Noted L) = entry was.who has.heard.shard (Heard (length asked)) in
+      let rest : List (Entry (Noted L)) = log.more ++ within.0 in record {
+        asked = asked;
+        come = come;
+        since = since;
+        by = was.who;
+        shard = has.heard.shard;
+        between = between;
         more = log.more;
         after = within.0;
-        is = sym (ap (λ (l : List (Entry (Noted L))). l ++ (heard.0 ++ (log.more ++ within.0))) (sym come.is)
-            ∙ sym (append_assoc asked heard.0 (log.more ++ within.0))
-            ∙ ap (λ (l : List (Entry (Noted L))). l ++ (log.more ++ within.0)) heard.1
-            ∙ sym (append_assoc old.pass.seen log.more within.0)
-            ∙ ap (λ (l : List (Entry (Noted L))). l ++ within.0) (sym log.seen)
-            ∙ within.1);
-        by = old.pass.who;
+        is = sym within.1
+            ∙ ap (λ (l : List (Entry (Noted L))). l ++ within.0) log.seen
+            ∙ append_assoc old.pass.seen log.more within.0
+            ∙ ap (λ (l : List (Entry (Noted L))). l ++ rest) has.follows.log.seen
+            ∙ append_assoc was.seen between rest
+            ∙ ap (λ (l : List (Entry (Noted L))). l ++ (between ++ rest)) has.heard.is
+            ∙ ap (λ (l : List (Entry (Noted L))). (l ++ note ∷ []) ++ (between ++ rest)) (sym has.heard.takes_in.1);
+        moves = subst (λ (l : List (Entry (Noted L))). All IsMove l) (sym has.follows.log.own) (all-moves was.who has.as_it_heard.part.stripe has.follows.made);
         made = follows.made;
         noted = follows.noted;
-        own = log.own;
+        own = subst (λ (who : ℕ). calls_by who log.more ≡ entries who old.part.stripe (map (λ (t : Transition L). Moved t) follows.made)) has.follows.log.who log.own;
       }
 
 module _ {L : Type 0} (type : LegType L) where

@@ -8,7 +8,7 @@ use Rattle.nm_gate.specs.declared.gated_stripe.GatedStripe.{GatedStripe}
 use Rattle.nm_history.specs.declared.transition.Move.{Move}
 use Rattle.nm_history.specs.declared.transition.Move.TheVariants.{Opens, Does, Looks, Saves, Clears, Loses}
 use Rattle.nm_history.specs.declared.transition.Noted.{Noted}
-use Rattle.nm_history.specs.declared.transition.Noted.TheVariants.{Asked, Moved}
+use Rattle.nm_history.specs.declared.transition.Noted.TheVariants.{Asked, Heard, Moved}
 use Rattle.nm_history.specs.declared.transition.Transition.{Transition}
 use Rattle.nm_history.specs.History.{LegalMoves, end_of, last_of}
 use Rattle.nm_history.specs.Laws.{All, IsNoLoss, answers_in, answers_of, steps_in, steps_of}
@@ -58,20 +58,26 @@ module _ {L : Type 0} where
   noted-front s shard (Moved t) rest list true at ih = step-front s shard t.made rest (steps_of list) true at ih
   noted-front s shard (Moved t) rest list false at ih = step-front s shard t.made rest (steps_of list) false at ih
   noted-front s shard (Asked index payload) rest list true at ih = ih
+  noted-front s shard (Heard place) rest list true at ih = ih
   noted-front s shard (Asked index payload) rest list false at ih = ih
+  noted-front s shard (Heard place) rest list false at ih = ih
 
   noted-answers : (s shard : ℕ) (what : Noted L) (rest : List (MirrorStep L)) (list : List (Transition L)) (b : Bool) → (shard == s) ≡ b → lists.answers_of s rest ≡ answers_of list → lists.answers_of s (step_noted shard what ++ rest) ≡ answers_of (if b then moves_of (what ∷ []) ++ list else list)
   noted-answers s shard (Moved t) rest list true at ih = answer-front s shard t.made rest (answers_of list) true at ih
   noted-answers s shard (Moved t) rest list false at ih = answer-front s shard t.made rest (answers_of list) false at ih
   noted-answers s shard (Asked index payload) rest list true at ih = ih
+  noted-answers s shard (Heard place) rest list true at ih = ih
   noted-answers s shard (Asked index payload) rest list false at ih = ih
+  noted-answers s shard (Heard place) rest list false at ih = ih
 
   -- an entry in front, of the stripe or of another
   picked : (s by shard : ℕ) (what : Noted L) (log : List (Entry (Noted L))) (b : Bool) → (shard == s) ≡ b → history_of s (entry by shard what ∷ log) ≡ (if b then moves_of (what ∷ []) ++ history_of s log else history_of s log)
   picked s by shard (Moved t) log true at = rw at refl
   picked s by shard (Moved t) log false at = rw at refl
   picked s by shard (Asked index payload) log true at = rw at refl
+  picked s by shard (Heard place) log true at = rw at refl
   picked s by shard (Asked index payload) log false at = rw at refl
+  picked s by shard (Heard place) log false at = rw at refl
 
   steps-are : (s : ℕ) (log : List (Entry (Noted L))) → lists.steps_of s (steps_in_log log) ≡ steps_of (history_of s log)
   steps-are s [] = refl
@@ -88,6 +94,7 @@ module _ {L : Type 0} where
   in-front : (b : Bool) (what : Noted L) (all one two : List (Transition L)) → all ≡ one ++ two → (if b then moves_of (what ∷ []) ++ all else all) ≡ (if b then moves_of (what ∷ []) ++ one else one) ++ two
   in-front true (Moved t) all one two is = ap (λ (l : List (Transition L)). t ∷ l) is
   in-front true (Asked index payload) all one two is = is
+  in-front true (Heard place) all one two is = is
   in-front false what all one two is = is
 
   -- what a stripe has of two logs, one after the other
@@ -109,6 +116,7 @@ module _ {L : Type 0} where
   noted-of : (stripes shard : ℕ) (what : Noted L) (rest : List (MirrorStep L)) → IsOfStripes stripes shard what → AreOf stripes rest → AreOf stripes (step_noted shard what ++ rest)
   noted-of stripes shard (Moved t) rest inside are = step-of stripes shard t.made rest inside are
   noted-of stripes shard (Asked index payload) rest inside are = are
+  noted-of stripes shard (Heard place) rest inside are = are
 
   steps-of-stripes : (stripes : ℕ) (log : List (Entry (Noted L))) → AreOfStripes stripes log → AreOf stripes (steps_in_log log)
   steps-of-stripes stripes [] are = tt

@@ -28,6 +28,7 @@ mod ReopenLemmas
 mod ReplaceLemmas
 mod RoundLemmas
 mod SaveLemmas
+mod ServesLemmas
 mod SessionLemmas
 mod StatusLemmas
 mod StepsTold

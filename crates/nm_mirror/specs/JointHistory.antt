@@ -7,7 +7,7 @@ use Rattle.nm_geometry.specs.Geometry.{Geometry, IsGeometry}
 use Rattle.nm_history.specs.declared.transition.Move.{Move}
 use Rattle.nm_history.specs.declared.transition.Move.TheVariants.{Does}
 use Rattle.nm_history.specs.declared.transition.Noted.{Noted}
-use Rattle.nm_history.specs.declared.transition.Noted.TheVariants.{Asked, Moved}
+use Rattle.nm_history.specs.declared.transition.Noted.TheVariants.{Asked, Heard, Moved}
 use Rattle.nm_history.specs.declared.transition.Transition.{Transition}
 use Rattle.nm_history.specs.History.{end_of, last_of}
 use Rattle.nm_history.specs.Laws.{All, IsNoLoss, IsNoOpening, answers_of}
@@ -30,6 +30,7 @@ step_by stripe move = []
 abbrev pub step_noted : {L : Type 0} → (stripe : ℕ) → Noted L → List (MirrorStep L)
 step_noted stripe (Moved t) = step_by stripe t.made
 step_noted stripe (Asked index payload) = []
+step_noted stripe (Heard place) = []
 
 -- the steps in a log, of all stripes
 abbrev pub steps_in_log : {L : Type 0} → List (Entry (Noted L)) → List (MirrorStep L)
@@ -40,10 +41,11 @@ steps_in_log (e ∷ log) = step_noted e.shard e.what ++ steps_in_log log
 abbrev pub history_of : {L : Type 0} → ℕ → List (Entry (Noted L)) → List (Transition L)
 history_of stripe log = transitions (of_shard stripe log)
 
--- what is noted in this shard is of one of so many stripes, or is the arrival of a request
+-- what is noted in this shard is of one of so many stripes, if it is a transition
 abbrev pub IsOfStripes : {L : Type 0} → (stripes shard : ℕ) → Noted L → Type 0
 IsOfStripes stripes shard (Moved t) = shard < stripes
 IsOfStripes stripes shard (Asked index payload) = Unit {0}
+IsOfStripes stripes shard (Heard place) = Unit {0}
 
 -- each transition is of one of so many stripes
 abbrev pub AreOfStripes : {L : Type 0} → ℕ → List (Entry (Noted L)) → Type 0
@@ -51,7 +53,7 @@ AreOfStripes stripes [] = Unit {0}
 AreOfStripes stripes (e ∷ log) = IsOfStripes stripes e.shard e.what × AreOfStripes stripes log
 
 -- A log goes on from where its first entries had led each of so many stripes, by transitions of
--- these stripes and by requests: none of them opens anew, none stops, and no leg loses power.
+-- these stripes and by other notes: no stripe opens anew, none stops, and no leg loses power.
 pub record GoesOnFrom {L : Type 0} (type : LegType L) (stripes : ℕ)
     (before later : List (Entry (Noted L))) (from : ℕ → GatedStripe L) : Type 0 where
   pub legal : IsLegal (LegalNotes type) (before ++ later)

@@ -25,6 +25,11 @@ abbrev pub HasHistory : {L : Type 0} → LegType L → Option (KeeperView (Noted
 HasHistory type None = ⊥
 HasHistory type (Some keeper) = LegalNotes type keeper.shard (whats keeper.all)
 
+-- the number of a keeper's shard, if there is a keeper
+abbrev pub kept_shard : {L : Type 0} → Option (KeeperView (Noted L)) → ℕ
+kept_shard None = 0
+kept_shard (Some keeper) = keeper.shard
+
 -- the move is made, or else nothing changes
 abbrev pub MadeIf : {L : Type 0} → LegType L → Bool → Move L → (old new : GatedStripe L) → Type 0
 MadeIf type true made old new = MoveOf type none_lost made old new

@@ -7,22 +7,26 @@ ghost use Rattle.nm_mirror.specs.Hearing.{EachBecomes, HaveTold, LaneHears};
 use crate::mirror::Mirror;
 use crate::part_lane::PartLane;
 use crate::pass::Pass;
+use crate::pass_shard::{PassShard, WasTold};
 use crate::trail::{Log, LogPass, LogTold};
 use nm_book::Naming;
 use nm_lanes::Gate;
 use nm_leg::LegPart;
+use std::marker::Brand;
 
-/// Has each of these lanes take in what this pass has seen.
-fn hear_each<L: LegPart, J: Naming>(
+/// Has each of these lanes take in what this pass has seen, which has what was told, and note in
+/// this shard that it heard that.
+fn hear_each<L: LegPart, J: Naming, N: WasTold<L>>(
     book: &Log<L, J>,
     from: &mut LogPass<L, J>,
+    shard: &mut PassShard<L, J>,
     lanes: &mut [PartLane<L, J>],
 )
-    ensures { EachBecomes (LaneHears (leg_type L.model L.honest) from.old.seen)
-        lanes.old lanes.new }
+    requires { IsPrefix N.told from.old.seen }
+    ensures { EachBecomes (LaneHears (leg_type L.model L.honest) N.told) lanes.old lanes.new }
 {
     for lane in lanes.iter_mut() {
-        lane.hear(book, from);
+        lane.hear::<N>(book, from, shard);
     }
 }
 
@@ -40,15 +44,26 @@ fn tell_each<L: LegPart, J: Naming>(
     }
 }
 
+impl<L: LegPart, J: Naming> Pass<L, J> {
+    // Has each part take in what was told, and note it.
+    fn hear_told<N: WasTold<L>>(&mut self, book: &Log<L, J>, told: LogTold<L, J>)
+        requires { told ≡ N.told }
+        ensures { EachBecomes (LaneHears (leg_type L.model L.honest) N.told)
+            self.old.parts.items self.new.parts.items }
+    {
+        let mut from = book.pass();
+        book.hear(&mut from, told);
+        hear_each::<L, J, N>(book, &mut from, &mut self.shard, self.parts.as_mut_slice());
+    }
+}
+
 impl<L: LegPart, G: Gate + Drop, J: Naming> Mirror<L, G, J> {
-    /// Has each part of the pass take in what was told.
+    /// Has each part of the pass take in what was told, and note that it did.
     pub fn hear(&self, pass: &mut Pass<L, J>, told: LogTold<L, J>)
         ensures { EachBecomes (LaneHears (leg_type L.model L.honest) told)
             pass.old.parts.items pass.new.parts.items }
     {
-        let mut from = self.book.pass();
-        self.book.hear(&mut from, told);
-        hear_each(&self.book, &mut from, pass.parts.as_mut_slice());
+        pass.hear_told::<Brand>(&self.book, told);
     }
 
     /// Tells what the parts of the pass have seen.

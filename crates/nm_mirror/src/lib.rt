@@ -69,6 +69,7 @@ mod own_looks;
 mod own_steps;
 mod part_lane;
 mod pass;
+mod pass_shard;
 mod refused;
 mod reopening;
 mod repair;

@@ -22,8 +22,9 @@ use std::sync::{Arc, Mutex, MutexGuard, Wait};
 /// A mirror: its stripes, by rising number, each behind a lock of its own that has its number; the
 /// gate that its calls pass between their steps; how many passes it made; whose turn it is to shut
 /// out writes; where saves are asked for, if it has superblocks; its log, and who makes the keepers
-/// of its sessions' shards there; and which legs are paused, a bit each. The lock of that count is
-/// taken by `pass` alone, that of the keepers' maker by `session`.
+/// of its sessions' and passes' shards there; and which legs are paused, a bit each. The lock of
+/// that count is taken by `pass` alone, that of the keepers' maker by `session` and `pass`, not
+/// both at once.
 #[derive(Drop)]
 pub struct Mirror<L: LegPart, G: Gate + Drop, J: Naming> {
     pub(crate) shape: Shape,

@@ -16,6 +16,7 @@ ghost use Rattle.nm_history.specs.Notes.{LegalNotes};
 use crate::ask::Ask;
 use crate::held::Held;
 use crate::lock::Lock;
+use crate::pass_shard::{PassShard, WasTold};
 use crate::sight::Sight;
 use crate::trail::{Log, LogPass};
 use nm_book::Naming;
@@ -69,13 +70,21 @@ impl<L: LegPart, J: Naming> PartLane<L, J> {
         pass
     }
 
-    /// Takes in what this pass has seen.
-    pub(crate) fn hear(&mut self, book: &Log<L, J>, from: &mut LogPass<L, J>)
-        ensures hears { LaneHears (leg_type L.model L.honest) from.old.seen self.old self.new }
+    /// Takes in what this pass has seen, which has what was told, and notes in this shard that it
+    /// heard that.
+    pub(crate) fn hear<N: WasTold<L>>(
+        &mut self,
+        book: &Log<L, J>,
+        from: &mut LogPass<L, J>,
+        shard: &mut PassShard<L, J>,
+    )
+        requires { IsPrefix N.told from.old.seen }
+        ensures hears { LaneHears (leg_type L.model L.honest) N.told self.old self.new }
         ensures same { from.new ≡ from.old }
     {
         let told = book.tell(from);
         book.hear(&mut self.pass, told);
+        shard.note::<N>(book, &mut self.pass);
     }
 
     /// Has this pass take in what its own has seen.

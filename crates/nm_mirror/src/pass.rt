@@ -8,6 +8,7 @@ ghost use Rattle.nm_mirror.specs.Passes.{RefusesPass};
 
 use crate::mirror::Mirror;
 use crate::part_lane::PartLane;
+use crate::pass_shard::PassShard;
 use crate::refused::Refused;
 use crate::sight::Sight;
 use nm_book::Naming;
@@ -20,11 +21,12 @@ use std::sync::Wait;
 pub const MOST_PASSES: u32 = 1024;
 
 /// One client's way through a mirror: a part for each stripe, which counts the entries that the
-/// client's steps were given.
+/// client's steps were given, and a shard of the log, in which these note what they heard.
 #[derive(Drop)]
 pub struct Pass<L: LegPart, J: Naming> {
     pub(crate) number: u32,
     pub(crate) parts: Vec<PartLane<L, J>>,
+    pub(crate) shard: PassShard<L, J>,
 }
 
 impl<L: LegPart, J: Naming> Pass<L, J> {
@@ -46,18 +48,18 @@ impl<L: LegPart, J: Naming> Pass<L, J> {
     }
 }
 
-/// Counts one pass more than were made, which has room for so many parts.
+/// Counts one pass more than were made: its number, and room for so many parts.
 ///
 /// Refused as `TooMany` where 1,024 were made, or as `Memory`: then it is not counted.
 fn begin_pass<L: LegPart, J: Naming>(
     alloc: Global,
     made: &mut u32,
     stripes: usize,
-) -> Result<Pass<L, J>, Refused<L>>
-    ensures number { IfOk result (λ pass. pass.number ≡ made.old) }
+) -> Result<(u32, Vec<PartLane<L, J>>), Refused<L>>
+    ensures number { IfOk result (λ begun. begun.0 ≡ made.old) }
     ensures counted { OnOk result (made.new ≡ made.old + 1) }
-    ensures none { IfOk result (λ pass. pass.parts.items ≡ []) }
-    ensures room { IfOk result (λ pass. stripes ≤ vec_capacity pass.parts) }
+    ensures none { IfOk result (λ begun. begun.1.items ≡ []) }
+    ensures room { IfOk result (λ begun. stripes ≤ vec_capacity begun.1) }
     ensures refused { IfErr result (RefusesOneMore made.old) }
     ensures stays { OnErr result (made.new ≡ made.old) }
 {
@@ -70,7 +72,7 @@ fn begin_pass<L: LegPart, J: Naming>(
         return Err(Refused::Memory);
     }
     *made = number + 1;
-    Ok(Pass { number, parts })
+    Ok((number, parts))
 }
 
 impl<L: LegPart, G: Gate + Drop, J: Naming> Mirror<L, G, J> {
@@ -88,10 +90,16 @@ impl<L: LegPart, G: Gate + Drop, J: Naming> Mirror<L, G, J> {
             HasNotedNothing (leg_type L.model L.honest) pass.parts.items) }
         ensures refused { IfErr result RefusesPass }
     {
-        let mut pass = begin_pass(alloc, &mut self.made.lock(rt), self.locks.len())?;
+        let (number, mut parts) = begin_pass(alloc, &mut self.made.lock(rt), self.locks.len())?;
         for lock in &self.locks {
-            pass.parts.push_reserved(PartLane::of(&lock.hold(rt)));
+            parts.push_reserved(PartLane::of(&lock.hold(rt)));
         }
-        Ok(pass)
+        let keeper = self.book.keeper(&mut self.keepers.lock(rt));
+        let shard = PassShard::of(keeper);
+        Ok(Pass {
+            number,
+            parts,
+            shard,
+        })
     }
 }

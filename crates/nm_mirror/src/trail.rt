@@ -32,7 +32,8 @@ pub type LogTold<L, J> = nm_book::Told<Noted<L>, J>;
 /// Who collects passes and stripes at the end.
 pub type LogCloser<L, J> = Closer<Noted<L>, J>;
 
-/// The right to note what is done to one stripe, or which requests of one session come.
+/// The right to note what is done to one stripe, which requests of one session come, or what one
+/// pass heard.
 pub type ShardKeeper<L, J> = Keeper<Noted<L>, J>;
 
 /// Who makes the keepers of the shards, by rising number: first those of the stripes.

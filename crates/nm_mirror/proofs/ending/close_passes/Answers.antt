@@ -3,8 +3,8 @@ use Rattle.std.proofs.Common.{◌≡◌, ◌++◌, ◌∷◌, [], ◌∙◌, rul
 use Rattle.nm_mirror.proofs.EndingLemmas.{one-taken, pass-closed}
 use Rattle.nm_mirror.proofs.ending.close_passes.Goals as goal
 
-pub loop-pass-preserved : goal.loop-pass-preserved
-loop-pass-preserved g c =
+pub loop-pass-preserved-in-Some : goal.loop-pass-preserved-in-Some
+loop-pass-preserved-in-Some g c =
     let here = c.loop-pass.invariant in
     let last : c.loop-pass.rest.items ≡ c.pop.new.self.items ++ c.in-Some.pass ∷ [] = search rules in (
       c.in-Some.pass ∷ here.0,

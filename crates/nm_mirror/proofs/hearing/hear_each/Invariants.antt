@@ -7,4 +7,4 @@ use Rattle.nm_mirror.proofs.hearing.hear_each.Given as goal
 abbrev pub invariant-loop-lane : goal.invariant-loop-lane
 invariant-loop-lane g l =
     (l.from ≡ l.fn.from) × (drop l.lane-index l.lanes ≡ drop l.lane-index l.fn.lanes)
-    × EachBecomes (LaneHears (leg_type g.L.LegPart.model g.L.LegPart.honest) l.fn.from.seen) (take l.lane-index l.fn.lanes) (take l.lane-index l.lanes)
+    × EachBecomes (LaneHears (leg_type g.L.LegPart.model g.L.LegPart.honest) g.N.WasTold.told) (take l.lane-index l.fn.lanes) (take l.lane-index l.lanes)

@@ -7,6 +7,6 @@ use Rattle.nm_mirror.proofs.mirror.Mirror.pass.Given as goal
 
 abbrev pub invariant-loop-lock : goal.invariant-loop-lock
 invariant-loop-lock g l =
-    (vec_len l.pass.parts ≡ l.lock-index) × (vec_len l.self.locks ≤ vec_capacity l.pass.parts) × HasCountedNothing l.pass.parts.items
-    × HasNotedNothing (leg_type g.L.LegPart.model g.L.LegPart.honest) l.pass.parts.items
-    × AreInOrder (map (λ lane. lane.part.stripe) l.pass.parts.items)
+    (vec_len l.parts ≡ l.lock-index) × (vec_len l.self.locks ≤ vec_capacity l.parts) × HasCountedNothing l.parts.items
+    × HasNotedNothing (leg_type g.L.LegPart.model g.L.LegPart.honest) l.parts.items
+    × AreInOrder (map (λ lane. lane.part.stripe) l.parts.items)
