@@ -1,2 +1,4 @@
+mod Behind
 mod Evenness
+mod OwnRequests
 mod Telling

@@ -2,16 +2,20 @@
 use Rattle.std.specs.Prelude.{◌≡◌, ◌≤◌, ◌+◌, ◌*◌, ℕ, Bool, true, List, [], ◌∷◌, ◌++◌, length}
 use Rattle.std.specs.Prelude.{Ok, Err, refl}
 use Rattle.std.proofs.Common.{◌∙◌}
+use Rattle.nm_book.specs.declared.rule.Entry.{Entry}
 use Rattle.nm_geometry.specs.declared.byte_range.ByteRange.{ByteRange}
 use Rattle.nm_geometry.specs.Geometry.{Geometry}
+use Rattle.nm_history.specs.declared.transition.Noted.{Noted}
 use Rattle.nm_lanes.specs.declared.call_error.CallError.{CallError}
 use Rattle.nm_lanes.specs.Cuts.{cuts_for, zeroes_for}
+use Rattle.nm_lanes.specs.Done.{Done}
 use Rattle.nm_lanes.specs.Flushes.{HasFlushed, HasFlushedSome, IsStripeOf, Touches}
 use Rattle.nm_lanes.specs.Reads.{HasRead, HasReadSome}
 use Rattle.nm_lanes.specs.Runs.{runs_of_range}
 use Rattle.nm_lanes.specs.Writes.{HasWritten, HasWrittenSome}
 use Rattle.nm_leg.specs.Leg.{LegType}
 use Rattle.nm_mirror.specs.Counting.{Follows}
+use Rattle.nm_mirror.specs.Hearing.{EachBecomes, LaneHears}
 use Rattle.nm_mirror.specs.LaneState.{LaneState}
 use Rattle.nm_mirror.specs.declared.pass.Pass.{Pass}
 use Rattle.nm_reports.specs.declared.mirror_call.MirrorCall.{MirrorCall}
@@ -59,62 +63,75 @@ range_at offset length = record { offset = offset; length = length }
 
 -- a read of the runs of this range: all of them and these bytes found; or some, and then a step
 -- ended it
-abbrev pub Read : {L : Type 0} → LegType L → Geometry → ByteRange → List ℕ → Answer → Parts L
-    → Type 0
-Read type shape range bytes (Ok done) parts =
-    HasRead (Follows type) shape (runs_of_range shape range) parts bytes
-Read type shape range bytes (Err Memory) parts = ⊥
-Read type shape range bytes (Err Full) parts = ⊥
-Read type shape range bytes (Err Io) parts =
-    (cause : CallError) × HasReadSome (Follows type) shape (runs_of_range shape range) parts cause
+abbrev pub Read : {L : Type 0} → (LaneState L → List (Done L) → LaneState L → Type 0) → Geometry
+    → ByteRange → List ℕ → Answer → Parts L → Type 0
+Read follows shape range bytes (Ok done) parts =
+    HasRead follows shape (runs_of_range shape range) parts bytes
+Read follows shape range bytes (Err Memory) parts = ⊥
+Read follows shape range bytes (Err Full) parts = ⊥
+Read follows shape range bytes (Err Io) parts =
+    (cause : CallError) × HasReadSome follows shape (runs_of_range shape range) parts cause
 
 -- a write of these bytes to the runs of this range: all of it; nothing, out of memory; or some, and
 -- then a step ended it
-abbrev pub Write : {L : Type 0}
-    → LegType L → Geometry → ByteRange → List ℕ → Answer → Parts L → Type 0
-Write type shape range bytes (Ok done) parts =
-    HasWritten (Follows type) shape (cuts_for (runs_of_range shape range) bytes) parts
-Write type shape range bytes (Err Memory) parts = parts.1 ≡ parts.0
-Write type shape range bytes (Err fault) parts =
+abbrev pub Write : {L : Type 0} → (LaneState L → List (Done L) → LaneState L → Type 0) → Geometry
+    → ByteRange → List ℕ → Answer → Parts L → Type 0
+Write follows shape range bytes (Ok done) parts =
+    HasWritten follows shape (cuts_for (runs_of_range shape range) bytes) parts
+Write follows shape range bytes (Err Memory) parts = parts.1 ≡ parts.0
+Write follows shape range bytes (Err fault) parts =
     (cause : CallError)
-    × HasWrittenSome (Follows type) shape (cuts_for (runs_of_range shape range) bytes) parts cause
+    × HasWrittenSome follows shape (cuts_for (runs_of_range shape range) bytes) parts cause
 
 -- zeroes written to the runs of this range, which takes no memory
-abbrev pub Zero : {L : Type 0} → LegType L → Geometry → ByteRange → Answer → Parts L → Type 0
-Zero type shape range (Ok done) parts =
-    HasWritten (Follows type) shape (zeroes_for (runs_of_range shape range)) parts
-Zero type shape range (Err Memory) parts = ⊥
-Zero type shape range (Err fault) parts =
+abbrev pub Zero : {L : Type 0} → (LaneState L → List (Done L) → LaneState L → Type 0) → Geometry
+    → ByteRange → Answer → Parts L → Type 0
+Zero follows shape range (Ok done) parts =
+    HasWritten follows shape (zeroes_for (runs_of_range shape range)) parts
+Zero follows shape range (Err Memory) parts = ⊥
+Zero follows shape range (Err fault) parts =
     (cause : CallError)
-    × HasWrittenSome (Follows type) shape (zeroes_for (runs_of_range shape range)) parts cause
+    × HasWrittenSome follows shape (zeroes_for (runs_of_range shape range)) parts cause
 
 -- a sync, which takes no memory: each leg was synced in each of these stripes; or in some of them,
 -- and then a step ended it
-abbrev pub Sync : {L : Type 0} → LegType L → Geometry → (ℕ → Type 0) → Answer → Parts L → Type 0
-Sync type shape Synced (Ok done) parts = HasFlushed (Follows type) shape.legs Synced parts
-Sync type shape Synced (Err Memory) parts = ⊥
-Sync type shape Synced (Err fault) parts =
-    (cause : CallError) × HasFlushedSome (Follows type) shape.legs Synced parts cause
+abbrev pub Sync : {L : Type 0} → (LaneState L → List (Done L) → LaneState L → Type 0) → Geometry
+    → (ℕ → Type 0) → Answer → Parts L → Type 0
+Sync follows shape Synced (Ok done) parts = HasFlushed follows shape.legs Synced parts
+Sync follows shape Synced (Err Memory) parts = ⊥
+Sync follows shape Synced (Err fault) parts =
+    (cause : CallError) × HasFlushedSome follows shape.legs Synced parts cause
 
--- what a call does, answered so, through a pass that has a part for each stripe
+-- what a call does, answered so, through a pass that has a part for each stripe: by steps that lead
+-- each lane so from its state before to its state after
+abbrev pub ActsBy : {L : Type 0} → (LaneState L → List (Done L) → LaneState L → Type 0)
+    → Geometry → TargetCall → Parts L → Type 0
+ActsBy follows shape (Reads offset bytes answer) =
+    Read follows shape (range_at offset (length bytes)) bytes answer
+ActsBy follows shape (Writes offset bytes answer) =
+    Write follows shape (range_at offset (length bytes)) bytes answer
+ActsBy follows shape (Zeroes offset count answer) =
+    Zero follows shape (range_at offset count) answer
+ActsBy follows shape (Flushes answer) = Sync follows shape (IsStripeOf shape) answer
+ActsBy follows shape (Syncs offset count answer) =
+    Sync follows shape (Touches shape (range_at offset count)) answer
+
+-- what a call does through a pass whose steps stand in the log
 abbrev pub Acts : {L : Type 0} → LegType L → Geometry → TargetCall → Parts L → Type 0
-Acts type shape (Reads offset bytes answer) =
-    Read type shape (range_at offset (length bytes)) bytes answer
-Acts type shape (Writes offset bytes answer) =
-    Write type shape (range_at offset (length bytes)) bytes answer
-Acts type shape (Zeroes offset count answer) =
-    Zero type shape (range_at offset count) answer
-Acts type shape (Flushes answer) = Sync type shape (IsStripeOf shape) answer
-Acts type shape (Syncs offset count answer) =
-    Sync type shape (Touches shape (range_at offset count)) answer
+Acts type shape call parts = ActsBy (Follows type) shape call parts
 
--- calls one after the other
+-- calls one after the other, by steps that lead each lane so
+abbrev pub LeadBy : {L : Type 0} → (LaneState L → List (Done L) → LaneState L → Type 0)
+    → Geometry → List (LaneState L) → List TargetCall → List (LaneState L) → Type 0
+LeadBy follows shape old [] new = new ≡ old
+LeadBy {L} follows shape old (call ∷ calls) new =
+    (mid : List (LaneState L)) × ActsBy follows shape call (old, mid)
+    × LeadBy follows shape mid calls new
+
+-- calls one after the other, whose steps stand in the log
 abbrev pub LeadMirror : {L : Type 0} → LegType L → Geometry → List (LaneState L) → List TargetCall
     → List (LaneState L) → Type 0
-LeadMirror type shape old [] new = new ≡ old
-LeadMirror {L} type shape old (call ∷ calls) new =
-    (mid : List (LaneState L)) × Acts type shape call (old, mid)
-    × LeadMirror type shape mid calls new
+LeadMirror type shape old calls new = LeadBy (Follows type) shape old calls new
 
 -- how a mirror's blocks lie in its stripes, and the parts of a pass through it
 pub record PassState (L : Type 0) : Type 0 where
@@ -152,3 +169,9 @@ leads-on type old mid new first second before after = record {
       lead-on type old.shape old.parts mid.parts new.parts first second before.calls_lead
       (rw before.shape at after.calls_lead);
 }
+
+-- each part of the pass takes in what was told of the log, and notes that; no call is made
+pub record PassHears {L : Type 0} (type : LegType L) (told : List (Entry (Noted L)))
+    (old new : PassState L) : Type 0 where
+  pub shape : new.shape ≡ old.shape
+  pub each : EachBecomes (LaneHears type told) old.parts new.parts

@@ -7,18 +7,21 @@ ghost use Rattle.nm_wire.specs.Export.{size_of};
 
 use crate::counted_calls::CountedCalls;
 use crate::file_calls::FileCalls;
+use crate::log_ends::LogEnds;
 use crate::mirror_calls::MirrorCalls;
+use crate::mirror_log::MirrorLog;
 use crate::mirror_target::MirrorTarget;
 use nm_connections::{
     ClientReader, ClientStream, ClientWriter, Ending, HangUp, Peer, SessionEnd, SessionPlaces,
     Shared, Stream, TimedStream, tell_begin, tell_end,
 };
+use nm_lanes::Gate;
 use nm_leg::LegPart;
 use nm_leg_files::{FileMirror, Leg, LegSyncs};
-use nm_mirror::{Naming, Pass};
+use nm_mirror::{LogTold, Mirror, Naming, Pass};
 use nm_replies::ReplyWriter;
 use nm_reports::Incident;
-use nm_session::{Limit, ServeFault, Served, SessionCore};
+use nm_session::{Limit, ServeFault, Served, SessionCore, SessionLog};
 use nm_wire::{Export, Name};
 use nm_workers::{Backend, negotiate, transmit};
 use std::alloc::Global;
@@ -143,12 +146,13 @@ fn negotiate_in_time<R: Wait + Clock>(
 // asks for nothing more, ends the read under way.
 //
 // A pass of another shape, which the mirror itself never makes, is told as memory that is refused.
-fn targets_of<'a, L: LegPart, J: Naming, C: MirrorCalls<L, J> + Drop>(
+fn targets_of<'a, L: LegPart, J: Naming, C: MirrorCalls<L, J> + Drop, M, D, K>(
     alloc: Global,
     mirror: &'a C,
+    log: &'a M,
     passes: &'a mut [Pass<L, J>],
     client: &'a ClientStream,
-) -> Result<Vec<MirrorTarget<'a, L, J, C, HangUp<'a>>>, ServeFault>
+) -> Result<Vec<MirrorTarget<'a, L, J, C, M, HangUp<'a>, D, K>>, ServeFault>
     ensures mirror { IfOk result (λ targets.
         All (λ target. target.mirror.now ≡ mirror.now) targets.items) }
     ensures passes { IfOk result (λ targets.
@@ -161,7 +165,7 @@ fn targets_of<'a, L: LegPart, J: Naming, C: MirrorCalls<L, J> + Drop>(
             stream: &client.stream,
         };
         let is_gone = Some(client.is_gone());
-        let Some(target) = MirrorTarget::new(mirror, pass, is_gone, hang_up) else {
+        let Some(target) = MirrorTarget::new(mirror, log, pass, is_gone, hang_up) else {
             return Err(ServeFault::Memory);
         };
         if targets.push(target).is_err() {
@@ -171,10 +175,46 @@ fn targets_of<'a, L: LegPart, J: Naming, C: MirrorCalls<L, J> + Drop>(
     Ok(targets)
 }
 
-// Answers a client's requests until it asks for nothing more.
+// Answers a client's requests until it asks for nothing more. The session's place in the log is of
+// any type, as is what is told there.
+fn answer_noting<
+    R,
+    L: LegPart + Send,
+    J: Naming + Send + Sync,
+    C: MirrorCalls<L, J> + Sync + Drop,
+    M: LogEnds<L, J, D> + Sync,
+    D: Send + Drop,
+    K: SessionLog<Told = D> + Send + Drop,
+>(
+    rt: &R,
+    alloc: Global,
+    client: &ClientStream,
+    mirror: &C,
+    log: &M,
+    passes: &mut [Pass<L, J>],
+    core: SessionCore,
+    places: &SessionPlaces,
+    own: K,
+) -> Result<Served, ServeFault>
+where
+    R: Threads + Wait + Sync,
+    requires size { size_of core.haggling.export ≤ 512 * (C.shape mirror.now).blocks }
+{
+    let backend = Backend {
+        targets: targets_of(alloc, mirror, log, passes, client)?,
+        log: own,
+    };
+    let reader = ClientReader::new(client, places.is_over());
+    let sender = ReplyWriter::new(ClientWriter::new(client));
+    let lookout = places.lookout();
+    transmit(rt, alloc, core, reader, sender, backend, lookout).result
+}
+
+// Answers a client's requests until it asks for nothing more, each noted in the mirror's log.
 fn answer_requests<
     R,
     L: LegPart + Send,
+    G: Gate + Sync + Drop,
     J: Naming + Send + Sync,
     C: MirrorCalls<L, J> + Sync + Drop,
 >(
@@ -182,6 +222,7 @@ fn answer_requests<
     alloc: Global,
     client: &ClientStream,
     mirror: &C,
+    log: &Mirror<L, G, J>,
     passes: &mut [Pass<L, J>],
     core: SessionCore,
     places: &SessionPlaces,
@@ -190,14 +231,10 @@ where
     R: Threads + Wait + Sync,
     requires size { size_of core.haggling.export ≤ 512 * (C.shape mirror.now).blocks }
 {
-    let backend = Backend {
-        targets: targets_of(alloc, mirror, passes, client)?,
-        log: (),
-    };
-    let reader = ClientReader::new(client, places.is_over());
-    let sender = ReplyWriter::new(ClientWriter::new(client));
-    let lookout = places.lookout();
-    transmit(rt, alloc, core, reader, sender, backend, lookout).result
+    let own = MirrorLog::new(rt, log);
+    answer_noting::<R, L, J, C, Mirror<L, G, J>, LogTold<L, J>, MirrorLog<'_, L, J>>(
+        rt, alloc, client, mirror, log, passes, core, places, own,
+    )
 }
 
 // The core of a session that has not begun, with the export of a mirror of so many blocks.
@@ -248,7 +285,16 @@ fn serve_client<R: Threads + Wait + Sync + Copy + Clock, J: Naming + Send + Sync
         },
         activity: &client.activity,
     };
-    let served = answer_requests(rt, alloc, client, &calls, passes, core, places)?;
+    let served = answer_requests(
+        rt,
+        alloc,
+        client,
+        &calls,
+        export.mirror,
+        passes,
+        core,
+        places,
+    )?;
     Ok(SessionEnd::By(served.end))
 }
 

@@ -22,8 +22,9 @@ pub trait Target {
     /// These calls, answered so, lead from one state of the target to another.
     ghost follows: { Self → List TargetCall → Self → Type 0 };
 
-    /// The state has seen that: what is called from here on stands behind it.
-    ghost has_heard: { Self → Self.Told → Type 0 };
+    /// From one state to the other that was taken in, and nothing was called: what is called from
+    /// there on, until something else is taken in, stands behind it.
+    ghost hears: { Self → Self.Told → Self → Type 0 };
 
     /// What the state has seen is told: what was called up to here stands in it.
     ghost has_told: { Self → Self.Told → Type 0 };
@@ -59,8 +60,7 @@ pub trait Target {
 
     /// Takes in what another has seen of the history.
     fn hear(&mut self, told: Self::Told)
-        ensures heard { has_heard self.new told }
-        ensures call { follows self.old [] self.new }
+        ensures heard { hears self.old told self.new }
         ensures size { size self.new ≡ size self.old };
 
     /// Tells what was seen of the history.

@@ -1,9 +1,8 @@
 -- Each request that is answered has come, and none comes or is answered twice.
-use Rattle.std.proofs.Common.{◌≡◌, ℕ, ◌+◌, ◌≤◌, ◌<◌, List, [], ◌∷◌, ◌++◌, Result, Ok, Err, refl, sym, ap, ◌∙◌, subst, ◌⊎◌, inl, inr, arith}
+use Rattle.std.proofs.Common.{◌≡◌, ℕ, ◌+◌, ◌≤◌, ◌<◌, List, [], ◌∷◌, ◌++◌, Result, Ok, Err, refl, sym, ap, subst, ◌⊎◌, inl, inr, arith}
 use Rattle.nm_requests.specs.declared.request.Request.{Request}
 use Rattle.nm_requests.specs.declared.task.Task.{Task}
 use Rattle.nm_requests.specs.declared.task.Task.TheVariants.{Read, Write, Zero, Flush, Nothing, Disconnect}
-use Rattle.nm_session.specs.declared.outcome.Outcome.{Outcome}
 use Rattle.nm_session.specs.declared.outstanding.Outstanding.{Outstanding}
 use Rattle.nm_session.specs.declared.stage.Stage.{Stage}
 use Rattle.nm_session.specs.declared.stage.Stage.TheVariants as stage

@@ -1,4 +1,4 @@
--- What is heard before a job's calls, and told after them, is no call.
+-- What is told after a job's calls is no call.
 use Rattle.std.proofs.Common.{ℕ, List, [], ◌++◌, subst, append-nil}
 use Rattle.nm_requests.specs.declared.task.Task.{Task}
 use Rattle.nm_session.specs.Calling.{Calls, TaskResult}
@@ -15,12 +15,4 @@ module _ {T : Type 0} (follows : T → List TargetCall → T → Type 0)
     are = calls.are;
     leads = subst (λ (all : List TargetCall). follows a all c) (append-nil calls.calls)
         (joins a b c calls.calls [] calls.leads tells);
-  }
-
-  pub heard_calls : follows a [] b → Calls task payload outcome (λ calls. follows b calls c)
-      → Calls task payload outcome (λ calls. follows a calls c)
-  heard_calls hears calls = record {
-    calls = calls.calls;
-    are = calls.are;
-    leads = joins a b c [] calls.calls hears calls.leads;
   }

@@ -16,16 +16,17 @@ use Rattle.nm_session.specs.Outcome.{says}
 use Rattle.nm_session.specs.Session.{Session}
 
 -- what a target gave when it was called for this task and for nothing else, with the payload with
--- which the request of this index came: the calls stand in its history behind that arrival, and in
--- what is told
+-- which the request of this index came, right after it had heard of that arrival: the calls stand
+-- in its history behind it, and in what is told
 pub record IsResult {T H G : Type 0} (target : target.Ghosts T H G) (log : log.Ghosts G H)
     (session : ℕ) (called : CalledValue) (told : H) : Type 0 where
   pub payload : List ℕ
   pub asked : H
   pub has_come : log.has_come session called.index payload asked
+  pub earlier : T
   pub before : T
   pub after : T
-  pub has_heard : target.has_heard before asked
+  pub hears : target.hears earlier asked before
   pub calls : Calls called.task payload called.outcome
       (λ calls. target.follows before calls after)
   pub has_told : target.has_told after told

@@ -25,8 +25,8 @@ impl Extent for Brand {
 const SHORT: u32 = 128 * 1024;
 
 // A task on its way to a worker, with its payload and the index of its request, and what tells that
-// the request came with it. Each target of the session has its bytes. `next` alone makes one, so that a
-// worker only calls for what was read.
+// the request came with it. Each target of the session has its bytes. `next` alone makes one, so
+// that a worker only calls for what was read.
 #[derive(Drop)]
 pub struct Job<E: Extent, T: Target> {
     index: u64,
@@ -161,17 +161,17 @@ impl<E: Extent, T: Target> Model for JobResult<E, T> {
 
 impl<E: Extent, T: Target> JobResult<E, T> {
     ghost use Rattle.std.specs.Prelude.{◌≤◌};
-    ghost use Rattle.nm_session.specs.Calling.{Calls};
     ghost use Rattle.nm_workers.specs.Results.{IsResult};
+    ghost use Rattle.nm_workers.specs.Working.{HearsAndCalls};
 
-    // Calls the target for a job, and for nothing else. It hears before that the request came, and
-    // tells then of its calls.
+    // Calls the target for a job, and for nothing else. It hears right before that the request
+    // came, and tells then of its calls.
     pub(crate) fn of(alloc: Global, target: &mut T, job: Job<E, T>) -> JobResult<E, T>
         requires size { E.bytes ≤ T.size target.old }
         ensures index { result.index ≡ job.index }
         ensures task { result.task ≡ job.task }
-        ensures calls { Calls job.task job.payload result.outcome
-            (λ calls. T.follows target.old calls target.new) }
+        ensures calls { HearsAndCalls T.Target job.task job.payload result.outcome
+            target.old target.new }
         ensures size { T.size target.new ≡ T.size target.old }
     {
         let (index, task, payload, buffer, asked) = job.into_parts();

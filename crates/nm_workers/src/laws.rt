@@ -5,8 +5,8 @@ ghost use Rattle.nm_workers.specs.Results.{IsNoted};
 
 use nm_session::Target;
 
-/// From where no request is outstanding on, as in a new session, each reply is to a request that was
-/// read since, and whose arrival was noted in the log then, with its own payload.
+/// From where no request is outstanding on, as in a new session, each reply is to a request that
+/// was read since, and whose arrival was noted in the log then, with its own payload.
 pub fn answers_what_came<T: Target>()
     ensures { (session : ℕ) → AnswersWhatCame (IsNoted T.Target T.Log.SessionLog session) }
 {}

@@ -1,8 +1,7 @@
 //! A worker: it calls one target, on a thread of its own or on the owner's.
 ghost use Rattle.std.specs.Prelude.{◌≡◌, ◌≤◌, [], ◌∷◌, ◌++◌, true, false};
 ghost use Rattle.nm_mailbox.specs.Ends.{outcomes_by};
-ghost use Rattle.nm_session.specs.Calling.{Calls};
-ghost use Rattle.nm_workers.specs.Working.{WorksFor};
+ghost use Rattle.nm_workers.specs.Working.{HearsAndCalls, WorksFor};
 
 use crate::job::{Extent, Job, JobResult};
 use crossbeam_channel::Receiver;
@@ -42,12 +41,12 @@ impl<E: Extent, T: Target> Worker<E, T> {
         }
     }
 
-    // Calls the target for a job, and for nothing else.
+    // Calls the target for a job, which it hears of right before, and for nothing else.
     pub(crate) fn do_job(self, alloc: Global, job: Job<E, T>) -> (JobResult<E, T>, Worker<E, T>)
         ensures index { result.0.index ≡ job.index }
         ensures task { result.0.task ≡ job.task }
-        ensures calls { Calls job.task job.payload result.0.outcome
-            (λ calls. T.follows self.target calls result.1.target) }
+        ensures calls { HearsAndCalls T.Target job.task job.payload result.0.outcome
+            self.target result.1.target }
         ensures outcomes { result.1.outcomes ≡ self.outcomes }
     {
         let Worker {
@@ -79,7 +78,7 @@ pub(crate) fn work<R: Wait, E: Extent, T: Target + Drop>(
     worker: Worker<E, T>,
     jobs: Receiver<Job<E, T>>,
 ) -> Worked<E, T>
-    ensures { WorksFor T.follows worker.target result.worker.target result.heard
+    ensures { WorksFor T.Target worker.target result.worker.target result.heard
         (outcomes_by worker.outcomes) (outcomes_by result.worker.outcomes) }
 {
     let (mut worker, mut heard) = (worker, true);

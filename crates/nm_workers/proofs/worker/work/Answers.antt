@@ -7,11 +7,11 @@ use Rattle.nm_workers.proofs.Working.{works_nowhere, works_on, works_past}
 use Rattle.nm_workers.proofs.worker.work.Goals as goal
 
 pub jobs-init : goal.jobs-init
-jobs-init g c = works_nowhere g.T.Target.follows c.args.worker.target (outcomes_by c.args.worker.outcomes)
+jobs-init g c = works_nowhere g.T.Target c.args.worker.target (outcomes_by c.args.worker.outcomes)
 
 pub jobs-preserved-then-heard : goal.jobs-preserved-then-heard
 jobs-preserved-then-heard g c =
-    works_on g.T.Target.follows c.args.worker.target c.jobs.worker.target c.do_job-done.result.1.target
+    works_on g.T.Target c.args.worker.target c.jobs.worker.target c.do_job-done.result.1.target
     c.report-heard.new.self.target c.jobs.heard (outcomes_by c.args.worker.outcomes)
     (outcomes_by c.jobs.worker.outcomes) (outcomes_by c.do_job-done.result.1.outcomes)
     (outcomes_by c.report-heard.new.self.outcomes) c.do_job-done.result.0 _ _ c.jobs.invariant
@@ -22,7 +22,7 @@ jobs-preserved-then-heard g c =
 
 pub jobs-preserved : goal.jobs-preserved
 jobs-preserved g c =
-    works_past g.T.Target.follows c.args.worker.target c.jobs.worker.target c.do_job-done.result.1.target
+    works_past g.T.Target c.args.worker.target c.jobs.worker.target c.do_job-done.result.1.target
     c.do_job-done.result.1.target c.jobs.heard (outcomes_by c.args.worker.outcomes)
     (outcomes_by c.jobs.worker.outcomes) (outcomes_by c.do_job-done.result.1.outcomes)
     (outcomes_by c.do_job-done.result.1.outcomes) c.do_job-done.result.0 _ _ c.jobs.invariant

@@ -9,4 +9,5 @@ invariant_of-self g c = record {
   even = as-many _ _ (answered c.args.call c.call_through.new.into c.call_through.result)
       c.args.self.now.pass.now.parts.items c.call_through.new.pass.parts.items
       c.call_through.ensures ∙ c.args.self.now.even;
+  some = c.args.self.now.some;
 }
