@@ -1,4 +1,3 @@
 mod Behind
-mod Evenness
+mod LaterRequests
 mod OwnRequests
-mod Telling
