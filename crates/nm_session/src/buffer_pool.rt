@@ -16,8 +16,8 @@ const MOST_ROOM: usize = 16 * (256 * 1024 + 16);
 // How many are kept at most.
 const MANY: usize = 16;
 
-/// Buffers whose bytes were sent, for READs to come to be read into: at most 16, with room for 4 MiB
-/// of data and 16 headers in all.
+/// Buffers whose bytes were sent, for READs to come to be read into: at most 16, with room for
+/// 4 MiB of data and 16 headers in all.
 #[derive(Drop)]
 pub struct BufferPool {
     spare: Vec<Vec<u8>>,

@@ -28,7 +28,8 @@ use Rattle.nm_stripe.specs.declared.push.Reach.TheVariants as reach
 use Rattle.nm_stripe.specs.declared.read.Reading.TheVariants as reading
 use Rattle.nm_stripe.specs.declared.step.Step.{Step}
 use Rattle.nm_stripe.specs.declared.step.Step.TheVariants.{Begin, Push, Claim, Read, Fail, Attach}
-use Rattle.nm_stripe.specs.declared.step.Step.TheVariants.{Return, Replace, Copy, Promote, Sync, Flush}
+use Rattle.nm_stripe.specs.declared.step.Step.TheVariants.{Return, Replace, Copy, Promote}
+use Rattle.nm_stripe.specs.declared.step.Step.TheVariants.{Sync, Flush}
 use Rattle.nm_stripe.specs.declared.sync.Promotion.TheVariants as promotion
 use Rattle.nm_stripe.specs.declared.sync.Syncing.TheVariants as syncing
 use Rattle.nm_stripe.specs.Begin.{BeginsWith, RefusesBegin, puts_in}
