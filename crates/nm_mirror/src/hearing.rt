@@ -75,4 +75,15 @@ impl<L: LegPart, G: Gate + Drop, J: Naming> Mirror<L, G, J> {
         tell_each(&self.book, &mut to, pass.parts.as_mut_slice());
         self.book.tell(&mut to)
     }
+
+    /// What was told at two times are beginnings of one log: joins them.
+    pub fn join_told(&self, one: LogTold<L, J>, other: LogTold<L, J>) -> LogTold<L, J>
+        ensures one { IsPrefix one result }
+        ensures other { IsPrefix other result }
+    {
+        let mut both = self.book.pass();
+        self.book.hear(&mut both, one);
+        self.book.hear(&mut both, other);
+        self.book.tell(&mut both)
+    }
 }
