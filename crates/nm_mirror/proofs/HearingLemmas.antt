@@ -15,7 +15,7 @@ use Rattle.nm_history.proofs.Notes.{heard-legal}
 use Rattle.nm_lanes.specs.Done.{Done}
 use Rattle.nm_leg.specs.Leg.{LegType}
 use Rattle.nm_mirror.specs.Counting.{Follows}
-use Rattle.nm_mirror.specs.Hearing.{EachBecomes, HasHeard, HaveHeard, HaveTold, HeardCallsComeFirst, IsMove, JustHeard, LaneHears, Waits}
+use Rattle.nm_mirror.specs.Hearing.{EachBecomes, HasHeard, HaveHeard, HaveTold, HeardCallsComeFirst, IsMove, JustHeard, LaneHears}
 use Rattle.nm_mirror.specs.Joining.{lane-joined, lane-stays, notes-append}
 use Rattle.nm_mirror.specs.LaneState.{LaneState}
 use Rattle.nm_mirror.specs.Trail.{HasHistory, NotesAll, entries}
@@ -68,12 +68,6 @@ module _ {A : Type 0} (so : A → A → Type 0) where
       )
 
 module _ {L : Type 0} (type : LegType L) where
-  pub waits-self : (lane : LaneState L) → Waits type lane lane
-  waits-self lane = lane-stays type lane
-
-  pub waits-on : (old mid new : LaneState L) → Waits type old mid → Waits type mid new → Waits type old new
-  waits-on old mid new here there = lane-joined type old mid new [] [] here there
-
   -- a pass that sees the log go on, and then notes these, notes these
   sees-notes : (shard : ℕ) (list : List (Noted L)) (old mid new : PassView (Noted L)) → SeesOn (LegalNotes type) old mid → NotesAll (LegalNotes type) shard list mid new → NotesAll (LegalNotes type) shard list old new
   sees-notes shard list old mid new sees notes = notes-append (LegalNotes type) shard [] list old mid new (record {
@@ -171,11 +165,3 @@ module _ {L : Type 0} (type : LegType L) where
         noted = follows.noted;
         own = subst (λ (who : ℕ). calls_by who log.more ≡ entries who old.part.stripe (map (λ (t : Transition L). Moved t) follows.made)) has.follows.log.who log.own;
       }
-
-module _ {L : Type 0} (type : LegType L) where
-  -- lanes that stay wait, and those that wait twice
-  pub wait-here : (lanes : List (LaneState L)) → EachBecomes (Waits type) lanes lanes
-  wait-here lanes = each-self (Waits type) (waits-self type) lanes
-
-  pub wait-on : (old mid new : List (LaneState L)) → EachBecomes (Waits type) old mid → EachBecomes (Waits type) mid new → EachBecomes (Waits type) old new
-  wait-on old mid new here there = each-on (Waits type) (waits-on type) old mid new here there

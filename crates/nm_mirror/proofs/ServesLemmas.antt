@@ -131,11 +131,16 @@ module _ {L : Type 0} where
   heard-no-move : (by shard heard : ℕ) → ¬ IsMove {L = L} (entry by shard (Heard heard))
   heard-no-move by shard heard move = absurd (cc move.1)
 
-  -- the index of the request that came, and how much was heard, if that is what is noted
+  -- the index and payload of the request that came, and how much was heard, if that is noted
   abbrev index_of : Noted L → ℕ
   index_of (Moved t) = 0
   index_of (Asked index payload) = index
   index_of (Heard place) = 0
+
+  abbrev payload_of : Noted L → List ℕ
+  payload_of (Moved t) = []
+  payload_of (Asked index payload) = payload
+  payload_of (Heard place) = []
 
   abbrev heard_of : Noted L → ℕ
   heard_of (Moved t) = 0
@@ -143,8 +148,12 @@ module _ {L : Type 0} where
   heard_of (Heard place) = place
 
   -- what is noted of a request's arrival is of that request alone
-  asked-same : (who session index who2 session2 index2 : ℕ) (payload payload2 : List ℕ) → entry {E = Noted L} who session (Asked index payload) ≡ entry who2 session2 (Asked index2 payload2) → (session2 ≡ session) × (index2 ≡ index)
-  asked-same who session index who2 session2 index2 payload payload2 is = (sym (ap (λ (e : Entry (Noted L)). e.shard) is), sym (ap (λ (e : Entry (Noted L)). index_of e.what) is))
+  asked-same : (who session index who2 session2 index2 : ℕ) (payload payload2 : List ℕ) → entry {E = Noted L} who session (Asked index payload) ≡ entry who2 session2 (Asked index2 payload2) → (session2 ≡ session) × (index2 ≡ index) × (payload2 ≡ payload)
+  asked-same who session index who2 session2 index2 payload payload2 is = (
+    sym (ap (λ (e : Entry (Noted L)). e.shard) is),
+    sym (ap (λ (e : Entry (Noted L)). index_of e.what) is),
+    sym (ap (λ (e : Entry (Noted L)). payload_of e.what) is),
+  )
 
   moves-move : (by shard : ℕ) (made : List (Transition L)) → All IsMove (entries by shard (map (λ t. Moved t) made))
   moves-move by shard made =

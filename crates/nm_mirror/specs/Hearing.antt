@@ -1,6 +1,6 @@
 -- What the lanes of a pass hear of the log and note of it, and which steps stand behind that.
 use Rattle.std.specs.Prelude.{◌≡◌, ℕ, ◌+◌, List, [], ◌∷◌, ◌++◌, All, length, map, slice_get}
-use Rattle.std.specs.Prelude.{Option, Some}
+use Rattle.std.specs.Prelude.{Some}
 use mathlib.Core.List.{IsPrefix}
 use Rattle.nm_book.specs.declared.rule.Entry.{Entry}
 use Rattle.nm_book.specs.Log.{PassView, calls_by, entry}
@@ -21,10 +21,6 @@ abbrev pub EachBecomes : {A : Type 0} → (A → A → Type 0) → (old new : Li
 EachBecomes so [] [] = Unit {0}
 EachBecomes so (x ∷ old) (y ∷ new) = so x y × EachBecomes so old new
 EachBecomes so old new = ⊥
-
--- a lane does no step: its pass may see the log go on
-abbrev pub Waits : {L : Type 0} → LegType L → (old new : LaneState L) → Type 0
-Waits type old new = Follows type old [] new
 
 -- That it heard this is the last that the pass has seen, and a note of its own.
 pub record JustHeard {L : Type 0} (told : List (Entry (Noted L))) (pass : PassView (Noted L))
@@ -111,4 +107,4 @@ NoEntryServesTwo {L} type =
     (first : StandBehind type session index payload part list one)
     (second : StandBehind type session2 index2 payload2 part2 list2 other) (place : ℕ)
     → IsPrefix one log → IsPrefix other log → IsOfThem first place → IsOfThem second place
-    → (session2 ≡ session) × (index2 ≡ index)
+    → (session2 ≡ session) × (index2 ≡ index) × (payload2 ≡ payload)
