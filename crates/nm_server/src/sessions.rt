@@ -175,6 +175,17 @@ fn targets_of<'a, L: LegPart, J: Naming, C: MirrorCalls<L, J> + Drop, M, D, K>(
     Ok(targets)
 }
 
+// What a session is served with: its client, the mirror's calls and a pass for each of them at once,
+// and the places, which tell when all is over.
+#[derive(Drop)]
+struct SessionNeeds<'a, L: LegPart, J: Naming, C> {
+    alloc: Global,
+    client: &'a ClientStream,
+    mirror: &'a C,
+    passes: &'a mut [Pass<L, J>],
+    places: &'a SessionPlaces,
+}
+
 // Answers a client's requests until it asks for nothing more. The session's place in the log is of
 // any type, as is what is told there.
 fn answer_noting<
@@ -187,19 +198,22 @@ fn answer_noting<
     K: SessionLog<Told = D> + Send + Drop,
 >(
     rt: &R,
-    alloc: Global,
-    client: &ClientStream,
-    mirror: &C,
+    needs: SessionNeeds<'_, L, J, C>,
     log: &M,
-    passes: &mut [Pass<L, J>],
     core: SessionCore,
-    places: &SessionPlaces,
     own: K,
 ) -> Result<Served, ServeFault>
 where
     R: Threads + Wait + Sync,
-    requires size { size_of core.haggling.export ≤ 512 * (C.shape mirror.now).blocks }
+    requires size { size_of core.haggling.export ≤ 512 * (C.shape needs.mirror.now).blocks }
 {
+    let SessionNeeds {
+        alloc,
+        client,
+        mirror,
+        passes,
+        places,
+    } = needs;
     let backend = Backend {
         targets: targets_of(alloc, mirror, log, passes, client)?,
         log: own,
@@ -219,21 +233,17 @@ fn answer_requests<
     C: MirrorCalls<L, J> + Sync + Drop,
 >(
     rt: &R,
-    alloc: Global,
-    client: &ClientStream,
-    mirror: &C,
+    needs: SessionNeeds<'_, L, J, C>,
     log: &Mirror<L, G, J>,
-    passes: &mut [Pass<L, J>],
     core: SessionCore,
-    places: &SessionPlaces,
 ) -> Result<Served, ServeFault>
 where
     R: Threads + Wait + Sync,
-    requires size { size_of core.haggling.export ≤ 512 * (C.shape mirror.now).blocks }
+    requires size { size_of core.haggling.export ≤ 512 * (C.shape needs.mirror.now).blocks }
 {
     let own = MirrorLog::new(rt, log);
     answer_noting::<R, L, J, C, Mirror<L, G, J>, LogTold<L, J>, MirrorLog<'_, L, J>>(
-        rt, alloc, client, mirror, log, passes, core, places, own,
+        rt, needs, log, core, own,
     )
 }
 
@@ -285,16 +295,14 @@ fn serve_client<R: Threads + Wait + Sync + Copy + Clock, J: Naming + Send + Sync
         },
         activity: &client.activity,
     };
-    let served = answer_requests(
-        rt,
+    let needs = SessionNeeds {
         alloc,
         client,
-        &calls,
-        export.mirror,
+        mirror: &calls,
         passes,
-        core,
         places,
-    )?;
+    };
+    let served = answer_requests(rt, needs, export.mirror, core)?;
     Ok(SessionEnd::By(served.end))
 }
 
