@@ -17,11 +17,12 @@ use Rattle.nm_lanes.specs.declared.call_error.CallError.{CallError}
 use Rattle.nm_lanes.specs.declared.call_error_kind.CallErrorKind.{CallErrorKind}
 use Rattle.nm_leg.specs.Leg.{LegType}
 use Rattle.nm_mirror.specs.Counting.{Follows}
-use Rattle.nm_mirror.specs.Hearing.{EachBecomes, HasHeard, HaveTold, HeardCallsComeFirst, LaneHears}
+use Rattle.nm_mirror.specs.Hearing.{EachBecomes, HasHeard, HaveHeard, HaveTold, HeardCallsComeFirst}
 use Rattle.nm_mirror.specs.Joining.{lane-joined, lane-stays}
 use Rattle.nm_mirror.specs.LaneState.{LaneState}
+use Rattle.nm_mirror.proofs.HearingLemmas.{each-long, each-on, each-self, heard-on, hears-heard}
 use Rattle.nm_mirror.specs.Sessions.{HasCome}
-use Rattle.nm_server.specs.Calls.{ActsBy, LeadBy, LeadMirror, Leads, PassHears, PassState}
+use Rattle.nm_server.specs.Calls.{Acts, ActsBy, LeadBy, LeadMirror, Leads, PassHears, PassState}
 use Rattle.nm_server.specs.Replies.{FollowsBehind, StandsInTheLog}
 use Rattle.nm_session.specs.CalledValue.{CalledValue}
 use Rattle.nm_session.specs.Calling.{Calls}
@@ -42,24 +43,6 @@ module _ {A : Type 0} (so : A → A → Type 0) where
   each-from [] (b ∷ ys) long all = omega (arith, long)
   each-from (a ∷ xs) [] long all = omega (arith, long)
   each-from (a ∷ xs) (b ∷ ys) long all = (all 0 a b refl refl, each-from xs ys (omega (arith, long)) (λ k x y old new. all (suc k) x y old new))
-
-  each-self : ((x : A) → so x x) → (xs : List A) → EachBecomes so xs xs
-  each-self self [] = tt
-  each-self self (x ∷ xs) = (self x, each-self self xs)
-
-  each-on : ((x y z : A) → so x y → so y z → so x z) → (xs ys zs : List A) → EachBecomes so xs ys → EachBecomes so ys zs → EachBecomes so xs zs
-  each-on on [] [] [] here there = tt
-  each-on on [] [] (z ∷ zs) here there = absurd there
-  each-on on [] (y ∷ ys) zs here there = absurd here
-  each-on on (x ∷ xs) [] zs here there = absurd here
-  each-on on (x ∷ xs) (y ∷ ys) [] here there = absurd there
-  each-on on (x ∷ xs) (y ∷ ys) (z ∷ zs) here there = (on x y z here.0 there.0, each-on on xs ys zs here.1 there.1)
-
-  pub each-long : (xs ys : List A) → EachBecomes so xs ys → length ys ≡ length xs
-  each-long [] [] each = refl
-  each-long [] (b ∷ ys) each = absurd each
-  each-long (a ∷ xs) [] each = absurd each
-  each-long (a ∷ xs) (b ∷ ys) each = let long = each-long xs ys each.1 in omega (arith, long)
 
 module _ {A : Type 0} (so to : A → A → Type 0) where
   -- more of each pair
@@ -243,10 +226,6 @@ module _ {A : Type 0} (so : A → A → Type 0) (P Q : A → Type 0) where
   all-back back (x ∷ xs) (y ∷ ys) each all =
       All-cons Q x xs (back x y each.0 (All-head P y ys all)) (all-back back xs ys each.1 (All-tail P y ys all))
 
--- each of these lanes did steps alone since its pass heard this
-abbrev HaveHeard : {L : Type 0} → LegType L → List (LaneState L) → List (Entry (Noted L)) → Type 0
-HaveHeard type lanes asked = All (λ lane. HasHeard type asked lane) lanes
-
 module _ {L : Type 0} (type : LegType L) where
   -- some steps led a lane
   abbrev Goes : LaneState L → LaneState L → Type 0
@@ -261,18 +240,6 @@ module _ {L : Type 0} (type : LegType L) where
   -- what a lane has seen only grows
   goes-grows : (old new : LaneState L) → Goes old new → IsPrefix old.pass.seen new.pass.seen
   goes-grows old new goes = (goes.1.log.more, sym goes.1.log.seen)
-
-  -- a lane that heard has heard, and goes on from there
-  just-heard : (asked : List (Entry (Noted L))) (old new : LaneState L) → LaneHears type asked old new → HasHeard type asked new
-  just-heard asked old new hears = record { as_it_heard = new; heard = hears.heard; steps = []; follows = lane-stays type new }
-
-  heard-on : (asked : List (Entry (Noted L))) (old new : LaneState L) → Goes old new → HasHeard type asked old → HasHeard type asked new
-  heard-on asked old new goes heard = record {
-    as_it_heard = heard.as_it_heard;
-    heard = heard.heard;
-    steps = heard.steps ++ goes.0;
-    follows = lane-joined type heard.as_it_heard old new heard.steps goes.0 heard.follows goes.1;
-  }
 
   -- what it heard it has seen
   heard-seen : (asked : List (Entry (Noted L))) (lane : LaneState L) → HasHeard type asked lane → IsPrefix asked lane.pass.seen
@@ -293,6 +260,10 @@ module _ {L : Type 0} (type : LegType L) (shape : Geometry) where
   call-goes : (call : TargetCall) (old new : List (LaneState L)) → ActsBy (Follows type) shape call (old, new) → EachBecomes (Goes type) old new
   call-goes call old new acts = acts-so (Follows type) shape (Goes type) (λ x y led. led) (goes-self type) call old new acts
 
+  -- a call leaves as many lanes as there were
+  pub as-many : (call : TargetCall) (old new : List (LaneState L)) → Acts type shape call (old, new) → length new ≡ length old
+  as-many call old new acts = each-long (Goes type) old new (call-goes call old new acts)
+
   lead-goes : (calls : List TargetCall) (old new : List (LaneState L)) → LeadMirror type shape old calls new → EachBecomes (Goes type) old new
   lead-goes [] old new lead =
       subst (λ (parts : List (LaneState L)). EachBecomes (Goes type) old parts) (sym lead) (each-self (Goes type) (goes-self type) old)
@@ -300,49 +271,34 @@ module _ {L : Type 0} (type : LegType L) (shape : Geometry) where
 
   have-heard : (asked : List (Entry (Noted L))) (old new : List (LaneState L)) → EachBecomes (Goes type) old new → HaveHeard type old asked → HaveHeard type new asked
   have-heard asked old new each heard =
-      all-on (Goes type) (λ lane. HasHeard type asked lane) (λ lane. HasHeard type asked lane) (heard-on type asked) old new each heard
+      all-on (Goes type) (λ lane. HasHeard type asked lane) (λ lane. HasHeard type asked lane) (λ x y goes heard. heard-on type asked x y goes.0 heard goes.1) old new each heard
 
   told-back : (told : List (Entry (Noted L))) (old new : List (LaneState L)) → EachBecomes (Goes type) old new → HaveTold new told → HaveTold old told
   told-back told old new each all =
       all-back (Goes type) (λ lane. IsPrefix lane.pass.seen told) (λ lane. IsPrefix lane.pass.seen told) (told-before type told) old new each all
 
-  -- lanes that hear have heard, and nothing else since
-  hears-heard : (asked : List (Entry (Noted L))) (first second : List (LaneState L)) → EachBecomes (LaneHears type asked) first second → HaveHeard type second asked
-  hears-heard asked [] [] each = All-nil (λ (lane : LaneState L). HasHeard type asked lane)
-  hears-heard asked [] (y ∷ second) each = absurd each
-  hears-heard asked (x ∷ first) [] each = absurd each
-  hears-heard asked (x ∷ first) (y ∷ second) each =
-      All-cons (λ (lane : LaneState L). HasHeard type asked lane) y second (just-heard type asked x y each.0) (hears-heard asked first second each.1)
-
-  module _ (first : HeardCallsComeFirst type) (session index : ℕ) (payload : List ℕ) (asked told : List (Entry (Noted L)))
-      (come : HasCome type session index payload asked) where
-    abbrev Behind : LaneState L → List (Done L) → LaneState L → Type 0
-    Behind = FollowsBehind type session index payload told
-
-    one-behind : (old new : LaneState L) → HasHeard type asked old → IsPrefix new.pass.seen told → Stronger (Follows type) Behind old new
-    one-behind old new heard within list follows =
-        record { follows = follows; behind = first session index payload asked told old new list come heard follows within }
-
-    each-behind : (old new : List (LaneState L)) → EachBecomes (Goes type) old new → HaveHeard type old asked → HaveTold new told → EachBecomes (Stronger (Follows type) Behind) old new
-    each-behind [] [] each heard all = tt
-    each-behind [] (y ∷ new) each heard all = absurd each
-    each-behind (x ∷ old) [] each heard all = absurd each
-    each-behind (x ∷ old) (y ∷ new) each heard all = (
-      one-behind x y (All-head (λ (lane : LaneState L). HasHeard type asked lane) x old heard) (All-head (λ (lane : LaneState L). IsPrefix lane.pass.seen told) y new all),
-      each-behind old new each.1 (All-tail (λ (lane : LaneState L). HasHeard type asked lane) x old heard) (All-tail (λ (lane : LaneState L). IsPrefix lane.pass.seen told) y new all),
+  -- Steps of lanes which heard of a request, to lanes whose log is told, lead them by any relation by which such
+  -- steps of one lane lead it.
+  module _ (asked told : List (Entry (Noted L))) (To : LaneState L → List (Done L) → LaneState L → Type 0)
+      (one : (old new : LaneState L) (list : List (Done L)) → HasHeard type asked old → IsPrefix new.pass.seen told → Follows type old list new → To old list new) where
+    each-to : (old new : List (LaneState L)) → EachBecomes (Goes type) old new → HaveHeard type old asked → HaveTold new told → EachBecomes (Stronger (Follows type) To) old new
+    each-to [] [] each heard all = tt
+    each-to [] (y ∷ new) each heard all = absurd each
+    each-to (x ∷ old) [] each heard all = absurd each
+    each-to (x ∷ old) (y ∷ new) each heard all = (
+      λ list follows. one x y list (All-head (λ (lane : LaneState L). HasHeard type asked lane) x old heard) (All-head (λ (lane : LaneState L). IsPrefix lane.pass.seen told) y new all) follows,
+      each-to old new each.1 (All-tail (λ (lane : LaneState L). HasHeard type asked lane) x old heard) (All-tail (λ (lane : LaneState L). IsPrefix lane.pass.seen told) y new all),
     )
 
-    -- calls that lead lanes which heard of the request to lanes whose log is told
-    lead-behind : (calls : List TargetCall) (old new : List (LaneState L)) → HaveHeard type old asked → HaveTold new told → LeadMirror type shape old calls new
-        → LeadBy Behind shape old calls new
-    lead-behind [] old new heard all lead = lead
-    lead-behind (call ∷ calls) old new heard all lead =
+    lead-to : (calls : List TargetCall) (old new : List (LaneState L)) → HaveHeard type old asked → HaveTold new told → LeadMirror type shape old calls new → LeadBy To shape old calls new
+    lead-to [] old new heard all lead = lead
+    lead-to (call ∷ calls) old new heard all lead =
         let mid = lead.0 in
         let goes : EachBecomes (Goes type) old mid = call-goes call old mid lead.1 in
         let has_told : HaveTold mid told = told-back told mid new (lead-goes calls mid new lead.2) all in (
           mid,
-          acts-more (Follows type) Behind shape call old mid (each-behind old mid goes heard has_told) lead.1,
-          lead-behind calls mid new (have-heard asked old mid goes heard) all lead.2,
+          acts-more (Follows type) To shape call old mid (each-to old mid goes heard has_told) lead.1,
+          lead-to calls mid new (have-heard asked old mid goes heard) all lead.2,
         )
 
   -- what lanes of which there is one heard, and what they then tell
@@ -356,7 +312,7 @@ module _ {L : Type 0} (type : LegType L) (shape : Geometry) where
 module _ {L : Type 0} (type : LegType L) (earlier old new : PassState L) (asked told : List (Entry (Noted L)))
     (hears : PassHears type asked earlier old) (all : HaveTold new.parts told) where
   have_heard : HaveHeard type old.parts asked
-  have_heard = hears-heard type old.shape asked earlier.parts old.parts hears.each
+  have_heard = hears-heard type asked earlier.parts old.parts hears.each
 
   -- what was heard is in what is told
   pub told-after : (calls : List TargetCall) → 1 ≤ length old.parts → Leads type old calls new → IsPrefix asked told
@@ -364,15 +320,24 @@ module _ {L : Type 0} (type : LegType L) (earlier old new : PassState L) (asked 
       heard-within type old.shape asked told old.parts some have_heard
       (told-back type old.shape told old.parts new.parts (lead-goes type old.shape calls old.parts new.parts leads.calls_lead) all)
 
-  -- and what came of the task stands there
+  -- and what came of the task is what calls gave that lead so
+  pub calls-lead-to : (To : LaneState L → List (Done L) → LaneState L → Type 0)
+      → ((old new : LaneState L) (list : List (Done L)) → HasHeard type asked old → IsPrefix new.pass.seen told → Follows type old list new → To old list new)
+      → (called : CalledValue) (payload : List ℕ) → Calls called.task payload called.outcome (λ calls. Leads type old calls new)
+      → Calls called.task payload called.outcome (λ calls. LeadBy To old.shape old.parts calls new.parts)
+  calls-lead-to To one called payload calls = record {
+    calls = calls.calls;
+    are = calls.are;
+    leads = lead-to type old.shape asked told To one calls.calls old.parts new.parts have_heard all calls.leads.calls_lead;
+  }
+
+  -- so it stands there
   pub stands-there : HeardCallsComeFirst type → (session : ℕ) (called : CalledValue) (payload : List ℕ) → HasCome type session called.index payload asked
       → Calls called.task payload called.outcome (λ calls. Leads type old calls new) → StandsInTheLog type old.shape session called payload told
   stands-there first session called payload come calls = record {
     before = old.parts;
     after = new.parts;
-    calls = record {
-      calls = calls.calls;
-      are = calls.are;
-      leads = lead-behind type old.shape first session called.index payload asked told come calls.calls old.parts new.parts have_heard all calls.leads.calls_lead;
-    };
+    calls = calls-lead-to (FollowsBehind type session called.index payload told)
+        (λ x y list heard within follows. record { follows = follows; behind = first session called.index payload asked told x y list come heard follows within })
+        called payload calls;
   }

@@ -1,4 +1,2 @@
 mod Behind
-mod Evenness
 mod OwnRequests
-mod Telling

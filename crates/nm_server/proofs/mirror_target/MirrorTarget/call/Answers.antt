@@ -1,7 +1,7 @@
 -- A call leaves the pass a part for each stripe.
 use Rattle.std.proofs.Common.{◌∙◌}
 use Rattle.nm_server.specs.Calls.{answered}
-use Rattle.nm_server.proofs.Evenness.{as-many}
+use Rattle.nm_server.proofs.Behind.{as-many}
 use Rattle.nm_server.proofs.mirror_target.MirrorTarget.call.Goals as goal
 
 pub invariant_of-self : goal.invariant_of-self

@@ -2,7 +2,7 @@
 use Rattle.std.proofs.Common.{refl, ◌∙◌}
 use Rattle.nm_leg.specs.Leg.{leg_type}
 use Rattle.nm_mirror.specs.Hearing.{LaneHears}
-use Rattle.nm_server.proofs.Behind.{each-long}
+use Rattle.nm_mirror.proofs.HearingLemmas.{each-long}
 use Rattle.nm_server.proofs.mirror_target.MirrorTarget.take_in.Goals as goal
 
 pub invariant_of-self : goal.invariant_of-self
