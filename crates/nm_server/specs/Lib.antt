@@ -1,3 +1,4 @@
 pub mod Calls
 pub mod Handshake
+pub mod Later
 pub mod Replies
