@@ -72,7 +72,7 @@ module _ {L : Type 0} where
         (at_end all (entry who shard (arrival.Asked at its)) there.0 (arrival.Asked index payload) there.1)
 
   -- one entry more, which is this arrival
-  abbrev NotesOne : (old : List (Entry (Noted L))) → (index : ℕ) → (payload : List ℕ) → (new : List (Entry (Noted L))) → Type 0
+  abbrev pub NotesOne : (old : List (Entry (Noted L))) → (index : ℕ) → (payload : List ℕ) → (new : List (Entry (Noted L))) → Type 0
   NotesOne old index payload new = (who : ℕ) × (shard : ℕ) × (new ≡ old ++ entry who shard (arrival.Asked index payload) ∷ [])
 
 -- a request is kept with its index
@@ -80,7 +80,7 @@ abbrev first_index : List Outstanding → ℕ
 first_index [] = 0
 first_index (held ∷ others) = held.index
 
-held_index : (request : Request) (judged : Result Task ℕ) (held : Outstanding) → outstanding_for request judged ≡ held ∷ [] → held.index ≡ request.index
+pub held_index : (request : Request) (judged : Result Task ℕ) (held : Outstanding) → outstanding_for request judged ≡ held ∷ [] → held.index ≡ request.index
 held_index request (Ok (Read offset n)) held is = sym (ap first_index is)
 held_index request (Ok (Write offset n fua)) held is = sym (ap first_index is)
 held_index request (Ok (Zero offset n fua)) held is = sym (ap first_index is)
@@ -198,6 +198,16 @@ module _ {G : Type 0} (F : Note → G → G → Type 0) where
     none_there : (all : List (Entry (Noted L))) (So : ℕ → List ℕ → Type 0) → all ≡ [] → EachNoted So all
     none_there all So is index payload there =
         absurd (let none : slice_get (whats []) there.0 ≡ Some (arrival.Asked index payload) = subst (λ (l : List (Entry (Noted L))). slice_get (whats l) there.0 ≡ Some (arrival.Asked index payload)) is there.1 in cc none)
+
+    -- from where nothing is noted on, each noted request was read
+    pub noted_was_read : (events : List Event) (from to : Moment G) → RunsWith F from events to → all_of from.log ≡ [] → EachNoted (Below to.core.count) (all_of to.log)
+    noted_was_read events from to runs none = below events from to runs (none_there (all_of from.log) (Below from.core.count) none)
+
+    -- no request is unread again
+    pub count_grows : (events : List Event) (old new : Moment G) → RunsWith F old events new → old.core.count ≤ new.core.count
+    count_grows events old new runs =
+        (runs_so (λ count index payload. Unit {0}) old.core.count (λ count later index payload grows is. tt) (λ count payload is. tt)
+        events old new runs (omega arith, λ index payload there. tt)).0
 
     -- from where nothing is noted on, the one note of the index of a request that came has its payload
     pub come_with : (from : Moment G) (events : List Event) (held : Outstanding) (old : Moment G) (come : HasCome F from events held old) → all_of from.log ≡ []

@@ -5,6 +5,7 @@ ghost use Rattle.nm_book.specs.declared.rule.Entry.{Entry};
 ghost use Rattle.nm_geometry.specs.Geometry.{Geometry};
 ghost use Rattle.nm_history.specs.declared.transition.Noted.{Noted};
 ghost use Rattle.nm_leg.specs.Leg.{leg_type};
+ghost use Rattle.nm_server.specs.Later.{RepliesComeFirst};
 ghost use Rattle.nm_server.specs.Replies.{ResultsAreOfTheirRequests, StandsInTheLog};
 ghost use Rattle.nm_session.specs.CalledValue.{CalledValue};
 ghost use Rattle.nm_workers.specs.Results.{IsResult};
@@ -50,6 +51,26 @@ pub fn results_are_of_their_requests<
     H,
 >()
     ensures { (session : ℕ) → ResultsAreOfTheirRequests (leg_type L.model L.honest)
+        ⟦<NotingTarget<'a, L, G, J, C, H> as Target>⟧ ⟦<MirrorLog<'a, L, J> as SessionLog>⟧
+        (λ log. log.trail.all) session }
+{
+    nm_mirror::log_laws::heard_calls_come_first::<L>();
+    nm_mirror::log_laws::arrivals_are_noted::<L>();
+}
+
+/// A client that has its reply before it sends another request has the two in that order in the
+/// mirror's log: from where no request of a session is outstanding and nothing noted in its log,
+/// all that was told as a request was answered stands, as a beginning of the log, before the
+/// arrival of each request that is read after that, and so before each entry of its calls.
+pub fn later_requests_stand_behind_replies<
+    'a,
+    L: LegPart + Send + 'a,
+    G: Gate + Drop + 'a,
+    J: Naming + Send + Sync + 'a,
+    C: MirrorCalls<L, J> + Drop + 'a,
+    H,
+>()
+    ensures { (session : ℕ) → RepliesComeFirst (leg_type L.model L.honest)
         ⟦<NotingTarget<'a, L, G, J, C, H> as Target>⟧ ⟦<MirrorLog<'a, L, J> as SessionLog>⟧
         (λ log. log.trail.all) session }
 {
