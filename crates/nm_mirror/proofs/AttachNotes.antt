@@ -1,5 +1,5 @@
 -- What is counted of a stripe in which a leg stays as it is.
-use Rattle.std.proofs.Common.{◌≡◌, ℕ, Bool, true, false, Option, None, Some, IsSome, refl}
+use Rattle.std.proofs.Common.{◌≡◌, Bool, true, false, Option, None, Some, IsSome, refl}
 use Rattle.nm_mirror.specs.Attached.{unchanged}
 use Rattle.nm_mirror.specs.declared.counts.AttachCounts.{AttachCounts}
 
