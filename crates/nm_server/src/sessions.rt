@@ -175,13 +175,14 @@ fn targets_of<'a, L: LegPart, J: Naming, C: MirrorCalls<L, J> + Drop, M, D, K>(
     Ok(targets)
 }
 
-// What a session is served with: its client, the mirror's calls and a pass for each of them at once,
-// and the places, which tell when all is over.
+// What a session is served with: its client, the mirror's calls and log, the passes that its
+// requests take, and the places, which tell when sessions are to end.
 #[derive(Drop)]
-struct SessionNeeds<'a, L: LegPart, J: Naming, C> {
+struct SessionNeeds<'a, L: LegPart, J: Naming, C, M> {
     alloc: Global,
     client: &'a ClientStream,
     mirror: &'a C,
+    log: &'a M,
     passes: &'a mut [Pass<L, J>],
     places: &'a SessionPlaces,
 }
@@ -198,8 +199,7 @@ fn answer_noting<
     K: SessionLog<Told = D> + Send + Drop,
 >(
     rt: &R,
-    needs: SessionNeeds<'_, L, J, C>,
-    log: &M,
+    needs: SessionNeeds<'_, L, J, C, M>,
     core: SessionCore,
     own: K,
 ) -> Result<Served, ServeFault>
@@ -211,6 +211,7 @@ where
         alloc,
         client,
         mirror,
+        log,
         passes,
         places,
     } = needs;
@@ -233,17 +234,17 @@ fn answer_requests<
     C: MirrorCalls<L, J> + Sync + Drop,
 >(
     rt: &R,
-    needs: SessionNeeds<'_, L, J, C>,
-    log: &Mirror<L, G, J>,
+    needs: SessionNeeds<'_, L, J, C, Mirror<L, G, J>>,
     core: SessionCore,
 ) -> Result<Served, ServeFault>
 where
     R: Threads + Wait + Sync,
     requires size { size_of core.haggling.export ≤ 512 * (C.shape needs.mirror.now).blocks }
 {
+    let log = needs.log;
     let own = MirrorLog::new(rt, log);
     answer_noting::<R, L, J, C, Mirror<L, G, J>, LogTold<L, J>, MirrorLog<'_, L, J>>(
-        rt, needs, log, core, own,
+        rt, needs, core, own,
     )
 }
 
@@ -299,10 +300,11 @@ fn serve_client<R: Threads + Wait + Sync + Copy + Clock, J: Naming + Send + Sync
         alloc,
         client,
         mirror: &calls,
+        log: export.mirror,
         passes,
         places,
     };
-    let served = answer_requests(rt, needs, export.mirror, core)?;
+    let served = answer_requests(rt, needs, core)?;
     Ok(SessionEnd::By(served.end))
 }
 
