@@ -1,3 +1,4 @@
+pub mod ActsOverLemmas
 pub mod ApartLemmas
 pub mod AskLemmas
 pub mod FindingLemmas
