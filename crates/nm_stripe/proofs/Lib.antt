@@ -1,7 +1,9 @@
+pub mod AnswerLemmas
 pub mod ApartLemmas
 pub mod BeginLemmas
 pub mod BegunLemmas
 pub mod BoundLemmas
+pub mod CallingLemmas
 pub mod ClaimLemmas
 pub mod CopyLemmas
 pub mod FlushLemmas

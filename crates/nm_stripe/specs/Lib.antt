@@ -1,6 +1,7 @@
 pub mod Apart
 pub mod Begin
 pub mod Bound
+pub mod Calling
 pub mod Copy
 pub mod End
 pub mod Ends

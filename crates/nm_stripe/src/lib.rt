@@ -8,6 +8,7 @@
 
 pub use answer::{Answer, Handed};
 pub use begin::Beginning;
+pub use calling::{CallingStripe, ReadAnswer, StripeSeal};
 pub use copy::Copying;
 pub use end::End;
 pub use fail::Failing;
@@ -27,6 +28,7 @@ pub use written::Written;
 mod answer;
 mod attach;
 mod begin;
+mod calling;
 mod claim;
 mod copy;
 mod end;
