@@ -1,11 +1,15 @@
-ghost use Rattle.std.specs.Prelude.{◌≡◌, ◌≢◌, ◌⊎◌, ◌↔◌, ◌+◌, ◌<◌, ◌≤◌, ◌^◌, length, map, position};
+ghost use Rattle.std.specs.Prelude.{◌≡◌, ◌≢◌, ◌⊎◌, ◌↔◌, ◌+◌, ◌<◌, ◌≤◌, ◌^◌, ◌++◌, ◌∷◌, []};
+ghost use Rattle.std.specs.Prelude.{length, map, position, vec_capacity};
 ghost use Rattle.std.specs.Prelude.{All, IfNone, IfOk, IfSome, IsTrue};
 ghost use Rattle.nm_calls.specs.Answers.{calls_without, read_answered, voided_without};
+ghost use Rattle.nm_calls.specs.Answers.{write_returned};
 ghost use Rattle.nm_calls.specs.Asking.{next_read};
-ghost use Rattle.nm_calls.specs.CallsOut.{find_read, has_ticket, no_calls, voided_at};
-ghost use Rattle.nm_calls.specs.HasCalls.{with_read};
+ghost use Rattle.nm_calls.specs.CallsOut.{find_read, has_ticket, is_out_on, is_read_on, no_calls};
+ghost use Rattle.nm_calls.specs.CallsOut.{voided_at, without_write};
+ghost use Rattle.nm_calls.specs.HasCalls.{with_asked, with_read, with_write};
 
 use crate::read_out::ReadOut;
+use crate::write_out::WriteOut;
 use nm_replay::Memory;
 use std::alloc::Global;
 use std::marker::Model;
@@ -13,24 +17,29 @@ use std::marker::Model;
 /// How many reads may be out.
 pub const MOST_READS: usize = 256;
 
-/// The calls of a stripe that are out: as yet reads alone, at most 256.
+/// How many writes' calls may be known: of 256 runs, and of eight legs each.
+pub const MOST_WRITES: usize = 2048;
+
+/// The calls of a stripe that are out: as yet reads, at most 256, and writes.
 ///
 /// All memory is taken by `new`.
 #[derive(Drop)]
 pub struct Calls {
     tickets: u64,
     reads: Vec<ReadOut>,
+    writes: Vec<WriteOut>,
 }
 
 impl Model for Calls {
     ghost use Rattle.std.specs.Prelude.{◌≤◌, length, vec_capacity};
-    ghost use Rattle.nm_calls.specs.CallsOut.{CallsOut, only_reads};
+    ghost use Rattle.nm_calls.specs.CallsOut.{CallsOut, reads_and_writes};
 
     ghost Value = { CallsOut };
 
-    ghost view = { λ c. only_reads c.tickets c.reads.items };
+    ghost view = { λ c. reads_and_writes c.tickets c.reads.items c.writes.items };
 
-    ghost invariant = { λ c. (length c.reads.items ≤ 256) × (256 ≤ vec_capacity c.reads) };
+    ghost invariant = { λ c. (length c.reads.items ≤ 256) × (256 ≤ vec_capacity c.reads)
+        × (length c.writes.items ≤ 2048) × (2048 ≤ vec_capacity c.writes) };
 }
 
 /// Each of these reads that has one of so many blocks, from this one on, is void.
@@ -60,6 +69,19 @@ fn find(reads: &[ReadOut], ticket: u64) -> Option<usize>
     reads.iter().position(|read| read.ticket == ticket)
 }
 
+/// The call is known, in place of another one of its run and leg.
+fn put_write(writes: &mut Vec<WriteOut>, write: WriteOut)
+    requires few { length writes.old.items < 2048 }
+    requires room { 2048 ≤ vec_capacity writes.old }
+    ensures items { writes.new.items
+        ≡ without_write write.run write.leg writes.old.items ++ write ∷ [] }
+    ensures few { length writes.new.items ≤ 2048 }
+    ensures room { vec_capacity writes.new ≡ vec_capacity writes.old }
+{
+    writes.retain(|other| !other.is_call_of(write.run, write.leg));
+    writes.push_reserved(write);
+}
+
 impl Calls {
     /// No call is out.
     pub fn new(alloc: Global) -> Result<Calls, Memory>
@@ -68,6 +90,7 @@ impl Calls {
         Ok(Calls {
             tickets: 0,
             reads: Vec::with_capacity(alloc, MOST_READS)?,
+            writes: Vec::with_capacity(alloc, MOST_WRITES)?,
         })
     }
 
@@ -115,6 +138,55 @@ impl Calls {
         self.reads.retain(|other| other.ticket != read.ticket);
     }
 
+    /// Whether the call of this run's write is out on the leg.
+    pub fn is_out_on(&self, run: u64, leg: u8) -> bool
+        ensures { result ≡ is_out_on leg run self.now }
+    {
+        self.writes
+            .iter()
+            .any(|write| write.is_call_of(run, leg) && !write.waits)
+    }
+
+    /// Whether a read of the leg that counts is out on one of so many blocks, from this one on.
+    pub fn is_read_on(&self, leg: u8, block: u64, count: u64) -> bool
+        ensures { result ≡ is_read_on leg block count self.now }
+    {
+        self.reads.iter().any(|read| !read.void && read.leg == leg && read.meets(block, count))
+    }
+
+    /// The call of this run's write is handed out to the leg.
+    pub fn hand_out_write(&mut self, run: u64, leg: u8)
+        requires few { length self.old.writes < 2048 }
+        ensures { self.new ≡ with_write run leg self.old }
+    {
+        let write = WriteOut {
+            run,
+            leg,
+            waits: false,
+        };
+        put_write(&mut self.writes, write);
+    }
+
+    /// The call of this run's write is asked for on the leg, and waits.
+    pub fn ask_write(&mut self, run: u64, leg: u8)
+        requires few { length self.old.writes < 2048 }
+        ensures { self.new ≡ with_asked run leg self.old }
+    {
+        let write = WriteOut {
+            run,
+            leg,
+            waits: true,
+        };
+        put_write(&mut self.writes, write);
+    }
+
+    /// The call of this run's write on the leg is answered.
+    pub fn take_write(&mut self, run: u64, leg: u8)
+        ensures { self.new ≡ write_returned run leg self.old }
+    {
+        self.writes.retain(|write| !write.is_call_of(run, leg));
+    }
+
     /// Entries land on so many blocks, from this one on: each read there is void.
     pub fn void_at(&mut self, block: u64, count: u64)
         ensures { self.new ≡ record self.old {
@@ -124,10 +196,12 @@ impl Calls {
         void_each_at(&mut self.reads, block, count);
     }
 
-    /// A leg goes out: each read of it is void, and where it was the master each read.
+    /// A leg goes out: each read of it is void, and where it was the master each read. No write's
+    /// call of it is out or asked for any more, for they are late.
     pub fn lose(&mut self, leg: u8, master: u8)
         ensures { self.new ≡ calls_without leg master self.old }
     {
         void_each_without(&mut self.reads, leg, master);
+        self.writes.retain(|write| write.leg != leg);
     }
 }

@@ -1,15 +1,17 @@
 -- A stripe of which reads may be out: an answer keeps what holds of it and of its calls, and is
 -- explained, on all legs as they were answered.
-use Rattle.std.proofs.Common.{◌≡◌, ℕ, ◌+◌, ◌*◌, ◌<◌, ◌==◌, ◌&&◌, ◌||◌, Bool, true, false, not, cond, MatchBool, List, [], ◌∷◌, length, None, Option, Some, Result, Ok, Err, refl, sym, ap, ◌∙◌, subst, arith, eq-eqb}
+use Rattle.std.proofs.Common.{◌≡◌, ℕ, ◌+◌, ◌*◌, ◌<◌, ◌==◌, ◌&&◌, ◌||◌, Bool, true, false, not, cond, MatchBool, List, [], ◌∷◌, filter, length, None, Option, Some, Result, Ok, Err, refl, sym, ap, ◌∙◌, subst, arith, eq-eqb}
 use Rattle.std.proofs.lemmas.Bool.{eqb-true}
 use Rattle.std.proofs.lemmas.Option.{same_Some}
 use Rattle.nm_replay.specs.declared.block.Block.{Block}
 use Rattle.nm_calls.specs.Answers.{FailsOut, FindsOut, LosesOut, read_answered}
 use Rattle.nm_calls.specs.AsAnswered.{CallsFor, KeepsCalls, answered, calling_on, stripe_on}
 use Rattle.nm_calls.specs.declared.read_out.ReadOut.{ReadOut}
+use Rattle.nm_calls.specs.declared.write_out.WriteOut.{WriteOut}
 use Rattle.nm_calls.specs.CallsOut.{Calling, CallsOut, find_read}
-use Rattle.nm_calls.proofs.LostOutLemmas.{GoesWith, goes-with, loses_out-explained, loses_out-has, loses_out-keeps}
+use Rattle.nm_calls.proofs.LostOutLemmas.{lost-none}
 use Rattle.nm_calls.proofs.ReadEndLemmas.{among}
+use Rattle.nm_calls.proofs.ReadLostLemmas.{GoesWith, goes-with, loses_out-explained, loses_out-has, loses_out-keeps}
 use Rattle.nm_calls.proofs.ReadOutLemmas.{EndsWith, ends-with, ends_out-explained, ends_out-has, ends_out-keeps}
 use Rattle.nm_calls.proofs.VoidLemmas.{fails_out-explained, fails_out-has, fails_out-keeps, taken-has}
 use Rattle.nm_leg.specs.declared.call_tag.CallOf.{CallOf}
@@ -89,7 +91,7 @@ pub as-many : (bytes : List ℕ) (count : ℕ) → length bytes ≡ 512 * count 
 as-many bytes count room = let e : blocks_in bytes ≡ count = omega (arith, room) in length-blocks bytes ∙ e
 
 -- what an answer keeps of a stripe of whose legs nothing is known
-module _ {L : Type 0} (model : L → Leg) (old new : Calling L) (x : ReadOut) (bytes : List ℕ) (k : KeepsCalls (any_legs model) old) (out : find_read x.ticket old.calls.reads ≡ Some x) (no_writes : old.calls.writes ≡ []) (no_copy : old.calls.copy ≡ None) where
+module _ {L : Type 0} (model : L → Leg) (old new : Calling L) (x : ReadOut) (bytes : List ℕ) (k : KeepsCalls (any_legs model) old) (out : find_read x.ticket old.calls.reads ≡ Some x) (no_copy : old.calls.copy ≡ None) where
   abbrev type : LegType L
   type = any_legs model
 
@@ -123,9 +125,9 @@ module _ {L : Type 0} (model : L → Leg) (old new : Calling L) (x : ReadOut) (b
         not_last = ends.2;
         leg = subst (λ (ls : List L). LosesLeg type old.stripe ls x.leg) (sym legs) (none-loses type old.stripe x.leg);
         stripe = stripe;
-        calls = ap (λ (c : Calling L). c.calls) ends.3;
+        calls = ap (λ (c : Calling L). c.calls) ends.3 ∙ lost-none x.leg old.stripe (read_answered x old.calls) no_copy;
       } in
-      record { stripe = loses_out-keeps type x old new k.stripe k.calls f; calls = loses_out-has type x old new k.stripe k.calls f no_writes no_copy }
+      record { stripe = loses_out-keeps type x old new k.stripe k.calls f; calls = loses_out-has type x old new k.stripe k.calls f }
   ends-any done (Ok Again) counts ends = absurd ends
   ends-any done (Err refusal) counts ends = subst (λ (c : Calling L). KeepsCalls type c) (sym ends.1) taken-any
 
@@ -163,7 +165,7 @@ module _ {L : Type 0} (old new : Calling L) (legs after : List Leg) (k : KeepsCa
           subst (λ (c : Calling Leg). IsExplainedStep (λ (leg : Leg). leg) [] from.stripe c.stripe) (sym is) stays,
         )
 
-    module _ (no_writes : old.calls.writes ≡ []) (no_copy : old.calls.copy ≡ None) (counts : Counts x bytes old.stripe) where
+    module _ (no_copy : old.calls.copy ≡ None) (counts : Counts x bytes old.stripe) where
       ends : (done : Bool) (result : Result (ReadAnswer L) Refusal) → EndsOut done x bytes old new result → ReadsRunAt answered done x.leg x.block (blocks_of bytes) legs after → AnswerIs old new legs after (Some x) bytes result
       ends done (Ok (Value names)) is reads =
           let f : FindsOut answered x from to (blocks_of bytes) = record {
@@ -194,11 +196,11 @@ module _ {L : Type 0} (old new : Calling L) (legs after : List Leg) (k : KeepsCa
             not_last = is.2;
             reads = subst (λ (b : Bool). ReadsRunAt answered b x.leg x.block (blocks_of bytes) legs after) is.0 reads;
             stripe = ap (λ (c : Calling L). stripe_on after c.stripe) is.3 ∙ on-lost after x.leg old.stripe;
-            calls = ap (λ (c : Calling L). c.calls) is.3;
+            calls = ap (λ (c : Calling L). c.calls) is.3 ∙ lost-none x.leg from.stripe (read_answered x old.calls) no_copy;
           } in
           let e = goes-with answered x from to (blocks_of bytes) f in
           record {
-            keeps = record { stripe = loses_out-keeps answered x from to k.stripe k.calls e; calls = loses_out-has answered x from to k.stripe k.calls e no_writes no_copy };
+            keeps = record { stripe = loses_out-keeps answered x from to k.stripe k.calls e; calls = loses_out-has answered x from to k.stripe k.calls e };
             acts = loses_out-explained answered x from to k.stripe k.calls e refl;
           }
       ends done (Ok Again) is reads = absurd is
@@ -226,7 +228,10 @@ module _ {L : Type 0} (old new : Calling L) (of : CallOf) (bytes : List ℕ) (do
     where
       by-result : (r : Result (ReadAnswer L) Refusal) → EndsOut done x bytes old new r → (new.calls.writes ≡ old.calls.writes) × (new.calls.copy ≡ old.calls.copy)
       by-result (Ok (Value names)) is = (ap (λ (c : Calling L). c.calls.writes) is.3, ap (λ (c : Calling L). c.calls.copy) is.3)
-      by-result (Ok (LegLost gone)) is = (ap (λ (c : Calling L). c.calls.writes) is.3, ap (λ (c : Calling L). c.calls.copy) is.3)
+      by-result (Ok (LegLost gone)) is = (
+        ap (λ (c : Calling L). c.calls.writes) is.3 ∙ ap (λ (ws : List WriteOut). filter (λ w. not (w.leg == x.leg)) ws) no_writes ∙ sym no_writes,
+        ap (λ (c : Calling L). c.calls.copy) is.3,
+      )
       by-result (Ok Again) is = absurd is
       by-result (Err refusal) is = (ap (λ (c : Calling L). c.calls.writes) is.1, ap (λ (c : Calling L). c.calls.copy) is.1)
 
@@ -248,8 +253,8 @@ module _ {L : Type 0} (old new : Calling L) (of : CallOf) (bytes : List ℕ) (do
         | Some x ↦ λ is said.
             let out = found-out of old.calls x is in
             (elim (counts_not x bytes old.stripe) as (λ b. counts_not x bytes old.stripe ≡ b → MatchBool b (Taken x) (EndsOut done x bytes old new result) → KeepsCalls (any_legs model) new) [
-              | true ↦ λ off taken. subst (λ (c : Calling L). KeepsCalls (any_legs model) c) (sym taken.1) (taken-any model old new x bytes k out no_writes no_copy)
-              | false ↦ λ on ends. ends-any model old new x bytes k out no_writes no_copy done result (counts-is x bytes old.stripe on) ends
+              | true ↦ λ off taken. subst (λ (c : Calling L). KeepsCalls (any_legs model) c) (sym taken.1) (taken-any model old new x bytes k out no_copy)
+              | false ↦ λ on ends. ends-any model old new x bytes k out no_copy done result (counts-is x bytes old.stripe on) ends
             ]) refl said
       ]) refl answers
 
@@ -277,7 +282,7 @@ module _ {L : Type 0} (old new : Calling L) (of : CallOf) (bytes : List ℕ) (do
                   let counts : Counts x bytes old.stripe = record { counts = both.0; runs = both.1; room = went.0 } in
                   let whole : (length bytes == 512 * x.count) ≡ true = eq-eqb (length bytes) (512 * x.count) went.0 in
                   let is_end : EndsOut done x bytes old new result = subst (λ (b : Bool). MatchBool (not b) (Taken x) (EndsOut done x bytes old new result)) whole ending in
-                  ends old new legs after k x bytes out no_writes no_copy counts done result is_end went.1
+                  ends old new legs after k x bytes out no_copy counts done result is_end went.1
             ]) refl said called
       ]) refl answers calls
 

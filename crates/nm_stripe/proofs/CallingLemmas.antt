@@ -4,7 +4,8 @@ use Rattle.std.proofs.Common.{◌≡◌, ℕ, ◌&&◌, ◌||◌, Bool, true, fa
 use Rattle.std.specs.List.{list_any}
 use Rattle.nm_calls.specs.Asking.{AsksRead, is_written_on}
 use Rattle.nm_calls.specs.AsAnswered.{KeepsCalls, answered, calling_on}
-use Rattle.nm_calls.specs.CallsOut.{Calling, CallsOut, WriteOut, is_asked_on, is_call_of, is_out_on, no_calls}
+use Rattle.nm_calls.specs.declared.write_out.WriteOut.{WriteOut}
+use Rattle.nm_calls.specs.CallsOut.{Calling, CallsOut, is_asked_on, is_call_of, is_out_on, no_calls}
 use Rattle.nm_calls.specs.HasCalls.{HasCalls}
 use Rattle.nm_calls.proofs.AskLemmas.{asks-has, asks-stripe}
 use Rattle.nm_fanout.specs.declared.write_record.Record.{Record}
@@ -42,6 +43,7 @@ pub none-out : {L : Type 0} (type : LegType L) (s : StripeState L) → HasCalls 
 none-out type s = record {
   owed = λ t leg r at is. absurd (let e : ⊥ = cc in e);
   asked = λ t leg r at is. absurd (let e : ⊥ = cc in e);
+  named = λ leg run known. absurd (let e : ⊥ = cc in e);
   runs = λ t x at. absurd (let e : ⊥ = cc in e);
   tickets = λ t x at. absurd (let e : ⊥ = cc in e);
   current = λ t i x stands. absurd (let at = stands.out in let e : ⊥ = cc in e);
