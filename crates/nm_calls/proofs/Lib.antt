@@ -3,6 +3,7 @@ pub mod ApartLemmas
 pub mod AskLemmas
 pub mod AskWriteLemmas
 pub mod CarriedLemmas
+pub mod CopiesOverLemmas
 pub mod FindingLemmas
 pub mod LostOutLemmas
 pub mod NotedLemmas
@@ -12,6 +13,7 @@ pub mod ReadEndLemmas
 pub mod ReadLostLemmas
 pub mod ReadOutLemmas
 pub mod ReturnedLemmas
+pub mod StepsOverLemmas
 pub mod TakenLemmas
 pub mod VoidLemmas
 pub mod VoidingLemmas
