@@ -4,6 +4,7 @@ pub mod AskLemmas
 pub mod AskWriteLemmas
 pub mod CarriedLemmas
 pub mod CopiesOverLemmas
+pub mod CoverLemmas
 pub mod FindingLemmas
 pub mod LostOutLemmas
 pub mod NotedLemmas
@@ -14,6 +15,7 @@ pub mod ReadLostLemmas
 pub mod ReadOutLemmas
 pub mod ReturnedLemmas
 pub mod StepsOverLemmas
+pub mod SyncOutLemmas
 pub mod TakenLemmas
 pub mod VoidLemmas
 pub mod VoidingLemmas

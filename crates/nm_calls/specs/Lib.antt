@@ -3,3 +3,4 @@ pub mod AsAnswered
 pub mod Asking
 pub mod CallsOut
 pub mod HasCalls
+pub mod Syncing
