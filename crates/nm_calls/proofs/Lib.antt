@@ -8,6 +8,7 @@ pub mod CoverLemmas
 pub mod FindingLemmas
 pub mod LostOutLemmas
 pub mod NotedLemmas
+pub mod NumbersLemmas
 pub mod PushOverLemmas
 pub mod ReachedOutLemmas
 pub mod ReadEndLemmas

@@ -1,15 +1,16 @@
--- A stripe of which reads may be out: an answer keeps what holds of it and of its calls, and is
+-- A stripe whose calls may be out: a read's answer keeps what holds of it and of its calls, and is
 -- explained, on all legs as they were answered.
-use Rattle.std.proofs.Common.{◌≡◌, ℕ, ◌+◌, ◌*◌, ◌<◌, ◌==◌, ◌&&◌, ◌||◌, Bool, true, false, not, cond, MatchBool, List, [], ◌∷◌, filter, length, None, Option, Some, Result, Ok, Err, refl, sym, ap, ◌∙◌, subst, arith, eq-eqb}
+use Rattle.std.proofs.Common.{◌≡◌, ℕ, ◌+◌, ◌*◌, ◌<◌, ◌==◌, ◌&&◌, ◌||◌, Bool, true, false, not, cond, MatchBool, List, [], ◌∷◌, length, None, Option, Some, Result, Ok, Err, refl, sym, ap, ◌∙◌, subst, arith, eq-eqb}
 use Rattle.std.proofs.lemmas.Bool.{eqb-true}
 use Rattle.std.proofs.lemmas.Option.{same_Some}
 use Rattle.nm_replay.specs.declared.block.Block.{Block}
 use Rattle.nm_calls.specs.Answers.{FailsOut, FindsOut, LosesOut, read_answered}
 use Rattle.nm_calls.specs.AsAnswered.{CallsFor, KeepsCalls, answered, calling_on, stripe_on}
 use Rattle.nm_calls.specs.declared.read_out.ReadOut.{ReadOut}
-use Rattle.nm_calls.specs.declared.write_out.WriteOut.{WriteOut}
 use Rattle.nm_calls.specs.CallsOut.{Calling, CallsOut, find_read}
+use Rattle.nm_calls.specs.Numbers.{HasNumbersLeft}
 use Rattle.nm_calls.proofs.LostOutLemmas.{lost-none}
+use Rattle.nm_calls.proofs.NumbersLemmas.{lost-numbers, taken-numbers, taken-out}
 use Rattle.nm_calls.proofs.ReadEndLemmas.{among}
 use Rattle.nm_calls.proofs.ReadLostLemmas.{GoesWith, goes-with, loses_out-explained, loses_out-has, loses_out-keeps}
 use Rattle.nm_calls.proofs.ReadOutLemmas.{EndsWith, ends-with, ends_out-explained, ends_out-has, ends_out-keeps}
@@ -37,7 +38,7 @@ use Rattle.nm_stripe.specs.declared.calling.ReadAnswer.{ReadAnswer}
 use Rattle.nm_stripe.specs.declared.calling.ReadAnswer.TheVariants.{Value, Again, LegLost}
 use Rattle.nm_stripe.specs.declared.read.Reading.TheVariants.{Value as Found, LegLost as FoundLost}
 use Rattle.nm_stripe.specs.Ends.{EndsRead, names_of}
-use Rattle.nm_stripe.specs.Calling.{AnswersRead, CallsRead, EndsOut, IsExplainedAnswer, KeepsReads, counts_not, read_of}
+use Rattle.nm_stripe.specs.Calling.{AnswersRead, CallsRead, EndsOut, IsExplainedAnswer, KeepsInside, counts_not, read_of}
 use Rattle.nm_stripe.proofs.LostLemmas.{lost-legs}
 use Rattle.nm_stripe.proofs.CallingLemmas.{any_legs}
 
@@ -218,33 +219,57 @@ module _ {L : Type 0} (old new : Calling L) (legs after : List Leg) (k : KeepsCa
           }
 
 -- an answer, whatever is out under its ticket
-module _ {L : Type 0} (old new : Calling L) (of : CallOf) (bytes : List ℕ) (done : Bool) (result : Result (ReadAnswer L) Refusal) (no_writes : old.calls.writes ≡ []) (no_copy : old.calls.copy ≡ None) (answers : AnswersRead done (read_of of old.calls) bytes old new result) where
+module _ {L : Type 0} (old new : Calling L) (of : CallOf) (bytes : List ℕ) (done : Bool) (result : Result (ReadAnswer L) Refusal) (no_copy : old.calls.copy ≡ None) (answers : AnswersRead done (read_of of old.calls) bytes old new result) where
   abbrev Taken : ReadOut → Type 0
   Taken x = (result ≡ Ok Again) × (new ≡ record old { calls = read_answered x old.calls })
 
-  -- no other calls change
-  rest-of : (x : ReadOut) → EndsOut done x bytes old new result → (new.calls.writes ≡ old.calls.writes) × (new.calls.copy ≡ old.calls.copy)
+  -- no copy's call changes
+  rest-of : (x : ReadOut) → EndsOut done x bytes old new result → new.calls.copy ≡ old.calls.copy
   rest-of x ends = by-result result ends
     where
-      by-result : (r : Result (ReadAnswer L) Refusal) → EndsOut done x bytes old new r → (new.calls.writes ≡ old.calls.writes) × (new.calls.copy ≡ old.calls.copy)
-      by-result (Ok (Value names)) is = (ap (λ (c : Calling L). c.calls.writes) is.3, ap (λ (c : Calling L). c.calls.copy) is.3)
-      by-result (Ok (LegLost gone)) is = (
-        ap (λ (c : Calling L). c.calls.writes) is.3 ∙ ap (λ (ws : List WriteOut). filter (λ w. not (w.leg == x.leg)) ws) no_writes ∙ sym no_writes,
-        ap (λ (c : Calling L). c.calls.copy) is.3,
-      )
+      by-result : (r : Result (ReadAnswer L) Refusal) → EndsOut done x bytes old new r → new.calls.copy ≡ old.calls.copy
+      by-result (Ok (Value names)) is = ap (λ (c : Calling L). c.calls.copy) is.3
+      by-result (Ok (LegLost gone)) is = ap (λ (c : Calling L). c.calls.copy) is.3
       by-result (Ok Again) is = absurd is
-      by-result (Err refusal) is = (ap (λ (c : Calling L). c.calls.writes) is.1, ap (λ (c : Calling L). c.calls.copy) is.1)
+      by-result (Err refusal) is = ap (λ (c : Calling L). c.calls.copy) is.1
 
-  rest : (new.calls.writes ≡ old.calls.writes) × (new.calls.copy ≡ old.calls.copy)
+  rest : new.calls.copy ≡ old.calls.copy
   rest =
-      (elim (read_of of old.calls) as (λ o. AnswersRead done o bytes old new result → (new.calls.writes ≡ old.calls.writes) × (new.calls.copy ≡ old.calls.copy)) [
-        | None ↦ λ same. (ap (λ (c : Calling L). c.calls.writes) same.1, ap (λ (c : Calling L). c.calls.copy) same.1)
+      (elim (read_of of old.calls) as (λ o. AnswersRead done o bytes old new result → new.calls.copy ≡ old.calls.copy) [
+        | None ↦ λ same. ap (λ (c : Calling L). c.calls.copy) same.1
         | Some x ↦ λ said.
-            (elim (counts_not x bytes old.stripe) as (λ b. MatchBool b (Taken x) (EndsOut done x bytes old new result) → (new.calls.writes ≡ old.calls.writes) × (new.calls.copy ≡ old.calls.copy)) [
-              | true ↦ λ taken. (ap (λ (c : Calling L). c.calls.writes) taken.1, ap (λ (c : Calling L). c.calls.copy) taken.1)
+            (elim (counts_not x bytes old.stripe) as (λ b. MatchBool b (Taken x) (EndsOut done x bytes old new result) → new.calls.copy ≡ old.calls.copy) [
+              | true ↦ λ taken. ap (λ (c : Calling L). c.calls.copy) taken.1
               | false ↦ λ ends. rest-of x ends
             ]) said
       ]) answers
+
+  -- and numbers are left for the other reads
+  numbers-of : (x : ReadOut) → find_read x.ticket old.calls.reads ≡ Some x → length bytes ≡ 512 * x.count → HasNumbersLeft old → EndsOut done x bytes old new result → HasNumbersLeft new
+  numbers-of x out room left ends = by-result result ends
+    where
+      by-result : (r : Result (ReadAnswer L) Refusal) → EndsOut done x bytes old new r → HasNumbersLeft new
+      by-result (Ok (Value names)) is =
+          let long = as-many bytes x.count room in
+          let fewer = taken-out x old.calls.reads out in
+          subst (λ (c : Calling L). HasNumbersLeft c) (sym is.3) (omega (arith, left, long, fewer))
+      by-result (Ok (LegLost gone)) is =
+          subst (λ (c : Calling L). HasNumbersLeft c) (sym is.3)
+          (lost-numbers x.leg (record old { calls = read_answered x old.calls }) (taken-numbers x old out left))
+      by-result (Ok Again) is = absurd is
+      by-result (Err refusal) is = subst (λ (c : Calling L). HasNumbersLeft c) (sym is.1) (taken-numbers x old out left)
+
+  numbers : HasNumbersLeft old → HasNumbersLeft new
+  numbers left =
+      (elim (read_of of old.calls) as (λ o. read_of of old.calls ≡ o → AnswersRead done o bytes old new result → HasNumbersLeft new) [
+        | None ↦ λ is same. subst (λ (c : Calling L). HasNumbersLeft c) (sym same.1) left
+        | Some x ↦ λ is said.
+            let out = found-out of old.calls x is in
+            (elim (counts_not x bytes old.stripe) as (λ b. counts_not x bytes old.stripe ≡ b → MatchBool b (Taken x) (EndsOut done x bytes old new result) → HasNumbersLeft new) [
+              | true ↦ λ off taken. subst (λ (c : Calling L). HasNumbersLeft c) (sym taken.1) (taken-numbers x old out left)
+              | false ↦ λ on ends. numbers-of x out (counts-is x bytes old.stripe on).room left ends
+            ]) refl said
+      ]) refl answers
 
   answer-any : (model : L → Leg) → KeepsCalls (any_legs model) old → KeepsCalls (any_legs model) new
   answer-any model k =
@@ -258,8 +283,8 @@ module _ {L : Type 0} (old new : Calling L) (of : CallOf) (bytes : List ℕ) (do
             ]) refl said
       ]) refl answers
 
-  pub answer-reads : (model : L → Leg) → KeepsReads model old → KeepsReads model new
-  answer-reads model k = record { keeps = answer-any model k.keeps; no_writes = rest.0 ∙ k.no_writes; no_copy = rest.1 ∙ k.no_copy }
+  pub answer-inside : (model : L → Leg) → KeepsInside model old → KeepsInside model new
+  answer-inside model k = record { keeps = answer-any model k.keeps; no_copy = rest ∙ k.no_copy; numbers = numbers k.numbers }
 
   pub answer-is : (legs after : List Leg) → KeepsCalls answered (calling_on legs old) → CallsRead done (read_of of old.calls) bytes old legs after → AnswerIs old new legs after (read_of of old.calls) bytes result
   answer-is legs after k calls =

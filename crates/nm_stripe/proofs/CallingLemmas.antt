@@ -1,8 +1,13 @@
--- A stripe of which reads may be out: a hand-out keeps what holds of it and of its calls, on all
+-- A stripe whose calls may be out: a read's hand-out keeps what holds of it and of its calls, on all
 -- legs as they were answered.
-use Rattle.std.proofs.Common.{◌≡◌, ℕ, ◌&&◌, ◌||◌, Bool, true, false, not, List, [], ◌∷◌, refl, sym, ap, ◌∙◌, subst}
+use Rattle.std.proofs.Common.{◌≡◌, ℕ, ◌&&◌, ◌||◌, Bool, true, false, not, List, [], ◌∷◌, refl, sym, ap, ◌∙◌, subst, arith, ◌+◌, ◌≤◌, ◌^◌, max, sum_by}
 use Rattle.std.specs.List.{list_any}
-use Rattle.nm_calls.specs.Asking.{AsksRead, is_written_on}
+use Rattle.nm_calls.specs.Asking.{AsksRead, is_written_on, next_read}
+use Rattle.nm_calls.specs.Numbers.{HasNumbersLeft, blocks_out}
+use Rattle.nm_calls.specs.declared.read_out.ReadOut.{ReadOut}
+use Rattle.nm_fanout.specs.Records.{unlanded}
+use Rattle.nm_rules.specs.State.{next_number}
+use Rattle.std.proofs.lemmas.List.Sums.{sum_by-append, sum_by-cons}
 use Rattle.nm_calls.specs.AsAnswered.{KeepsCalls, answered, calling_on}
 use Rattle.nm_calls.specs.declared.write_out.WriteOut.{WriteOut}
 use Rattle.nm_calls.specs.CallsOut.{Calling, CallsOut, is_asked_on, is_call_of, is_out_on, no_calls}
@@ -19,7 +24,7 @@ use Rattle.nm_leg.specs.Leg.{Leg, LegType, leg_type}
 use Rattle.nm_rules.specs.Invariant.{Keeps}
 use Rattle.nm_rules.specs.Runs.{FitsRun}
 use Rattle.nm_rules.specs.State.{StripeState}
-use Rattle.nm_stripe.specs.Calling.{HandsOutRead, KeepsReads}
+use Rattle.nm_stripe.specs.Calling.{HandsOutRead, KeepsInside}
 
 -- legs of which nothing is known
 abbrev pub any_legs : {L : Type 0} → (L → Leg) → LegType L
@@ -70,19 +75,26 @@ module _ {L : Type 0} (old new : Calling L) (leg block count : ℕ) (asks : Asks
   }
 
 -- with no call out
-pub new-reads : {L : Type 0} (type : LegType L) (s : StripeState L) (calls : CallsOut) → Keeps type s → calls ≡ no_calls → KeepsReads type.model (record { stripe = s; calls = calls })
-new-reads type s calls k none = record {
+pub new-inside : {L : Type 0} (type : LegType L) (s : StripeState L) (calls : CallsOut) → Keeps type s → calls ≡ no_calls → KeepsInside type.model (record { stripe = s; calls = calls })
+new-inside {L} type s calls k none = record {
   keeps = record { stripe = keeps-any type s k; calls = subst (λ (c : CallsOut). HasCalls (any_legs type.model) (record { stripe = s; calls = c })) (sym none) (none-out (any_legs type.model) s) };
-  no_writes = ap (λ (c : CallsOut). c.writes) none;
   no_copy = ap (λ (c : CallsOut). c.copy) none;
+  numbers = subst (λ (c : CallsOut). HasNumbersLeft {L = L} (record { stripe = s; calls = c })) (sym none) (omega (arith, k.numbers.below));
 }
 
 -- with one read more
-pub asks-reads : {L : Type 0} (model : L → Leg) (old new : Calling L) (leg block count : ℕ) → KeepsReads model old → FitsRun old.stripe.place block count → AsksRead old new leg block count → KeepsReads model new
-asks-reads model old new leg block count k fits asks = record {
+pub asks-reads : {L : Type 0} (model : L → Leg) (old new : Calling L) (leg block count : ℕ) → KeepsInside model old → FitsRun old.stripe.place block count → AsksRead old new leg block count
+    → next_number old.stripe + unlanded old.stripe.records + blocks_out old.calls.reads + count ≤ max (2 ^ 63) old.stripe.first → KeepsInside model new
+asks-reads model old new leg block count k fits asks left = record {
   keeps = asks-keeps old new leg block count asks (any_legs model) k.keeps fits;
-  no_writes = ap (λ (c : Calling _). c.calls.writes) asks.after ∙ k.no_writes;
   no_copy = ap (λ (c : Calling _). c.calls.copy) asks.after ∙ k.no_copy;
+  numbers =
+      let x = next_read leg block count old.calls in
+      let of : ReadOut → ℕ = λ z. z.count in
+      let none : sum_by of [] ≡ 0 = refl in
+      let more = sum_by-append of old.calls.reads (x ∷ []) in
+      let last = sum_by-cons of x [] in
+      subst (λ (c : Calling _). HasNumbersLeft c) (sym asks.after) (omega (arith, left, none, more, last));
 }
 
 -- where no write is out none is in a read's way

@@ -1,4 +1,4 @@
--- A stripe of which reads may be out: the call of a read, and what its answer changes.
+-- A stripe whose calls may be out: the call of a read, and what its answer changes.
 use Rattle.std.specs.Prelude.{◌≡◌, ◌⊎◌, ℕ, ◌*◌, ◌==◌, ◌||◌, Bool, true, false, not, List, []}
 use Rattle.std.specs.Prelude.{length}
 use Rattle.std.specs.Prelude.{None, Option, Some, Result, Ok, Err, MatchBool}
@@ -12,6 +12,7 @@ use Rattle.nm_calls.specs.Asking.{AsksRead}
 use Rattle.nm_calls.specs.AsAnswered.{CallsFor, KeepsCalls}
 use Rattle.nm_calls.specs.declared.read_out.ReadOut.{ReadOut}
 use Rattle.nm_calls.specs.CallsOut.{CallsOut, Calling, find_read}
+use Rattle.nm_calls.specs.Numbers.{HasNumbersLeft}
 use Rattle.nm_rules.specs.declared.refusal.Refusal.{Refusal}
 use Rattle.nm_rules.specs.declared.refusal.Refusal.TheVariants.{Exhausted, Fault}
 use Rattle.nm_rules.specs.Acts.{IsExplainedStep}
@@ -25,11 +26,12 @@ use Rattle.nm_stripe.specs.declared.calling.ReadAnswer.{ReadAnswer}
 use Rattle.nm_stripe.specs.declared.calling.ReadAnswer.TheVariants.{Value, Again, LegLost}
 use Rattle.nm_stripe.specs.Ends.{names_of}
 
--- what a stripe of which reads may be out keeps, whatever its legs hold
-pub record KeepsReads {L : Type 0} (model : L → Leg) (c : Calling L) : Type 0 where
+-- what a stripe whose calls may be out keeps, whatever its legs hold: no copy's call is out, and no
+-- answer is without a number
+pub record KeepsInside {L : Type 0} (model : L → Leg) (c : Calling L) : Type 0 where
   pub keeps : KeepsCalls (leg_type model false) c
-  pub no_writes : c.calls.writes ≡ []
   pub no_copy : c.calls.copy ≡ None
+  pub numbers : HasNumbersLeft c
 
 -- the call of a read of so many blocks, from this one on, is handed out
 pub record HandsOutRead {L S : Type 0} (old new : Calling L) (call : LegCall S)

@@ -1,8 +1,9 @@
-//! A stripe of which reads may be out: their calls are handed out, made elsewhere, and answered.
-ghost use Rattle.std.specs.Prelude.{◌≡◌, ◌⊎◌, ◌↔◌, ◌+◌, ◌*◌, ◌^◌, ◌<◌, ◌≤◌, ◌&&◌, length, max};
+//! A stripe whose calls may be out: they are handed out, made elsewhere, and answered.
+ghost use Rattle.std.specs.Prelude.{◌≡◌, ◌⊎◌, ◌↔◌, ◌+◌, ◌*◌, ◌^◌, ◌<◌, ◌≤◌, ◌&&◌, [], length, max};
 ghost use Rattle.std.specs.Prelude.{IfErr, IfOk, IsTrue, List, OnErr, Some};
 ghost use Rattle.nm_calls.specs.AsAnswered.{KeepsCalls, answered, calling_on};
 ghost use Rattle.nm_calls.specs.CallsOut.{no_calls};
+ghost use Rattle.nm_calls.specs.Numbers.{blocks_out};
 ghost use Rattle.nm_fanout.specs.Records.{unlanded};
 ghost use Rattle.nm_leg.specs.Leg.{Leg, leg_type};
 ghost use Rattle.nm_rules.specs.RunRead.{read_run_cause};
@@ -39,7 +40,7 @@ pub struct StripeSeal {
     of_stripes: (),
 }
 
-/// A stripe of which reads may be out. It calls no leg: it hands out their calls, and takes the
+/// A stripe whose calls may be out. It calls no leg: it hands out their calls, and takes the
 /// answers in any order.
 ///
 /// What it promises holds on all legs as they were answered: each call is said to be made at its
@@ -52,13 +53,13 @@ pub struct CallingStripe<L: LegPart> {
 
 impl<L: LegPart> Model for CallingStripe<L> {
     ghost use Rattle.nm_calls.specs.CallsOut.{Calling};
-    ghost use Rattle.nm_stripe.specs.Calling.{KeepsReads};
+    ghost use Rattle.nm_stripe.specs.Calling.{KeepsInside};
 
     ghost Value = { Calling L };
 
     ghost view = { λ s. record { stripe = s.store; calls = s.calls } };
 
-    ghost invariant = { λ s. KeepsReads L.model (record { stripe = s.store; calls = s.calls }) };
+    ghost invariant = { λ s. KeepsInside L.model (record { stripe = s.store; calls = s.calls }) };
 }
 
 /// Whether no numbers are left for what the read found, if its call went well.
@@ -156,6 +157,9 @@ impl<L: LegPart> CallingStripe<L> {
         requires run { FitsRun self.old.stripe.place block count }
         requires few { length self.old.calls.reads < 256 }
         requires tickets { self.old.calls.tickets + 1 < 2 ^ 64 }
+        requires idle { self.old.calls.writes ≡ [] }
+        requires numbers { next_number self.old.stripe + unlanded self.old.stripe.records
+            + blocks_out self.old.calls.reads + count ≤ max (2 ^ 63) self.old.stripe.first }
         ensures ok { IfOk result (λ call. HandsOutRead self.old self.new call block count) }
         ensures cause { IfErr result (λ refusal.
             read_run_cause self.old.stripe count ≡ Some refusal) }
