@@ -5,7 +5,7 @@ use Rattle.std.proofs.lemmas.Option.{same_Some}
 use Rattle.nm_fanout.specs.declared.write_record.Record.{Record}
 use Rattle.std.proofs.lemmas.List.Sums.{sum_by-append, sum_by-cons}
 use Rattle.nm_calls.specs.Asking.{AsksRead, ask_read_cause, ask_read_rows, busy_leg, is_busy_by, next_read, written_on}
-use Rattle.nm_calls.specs.AsAnswered.{KeepsCalls, answered, calling_on}
+use Rattle.nm_calls.specs.AsAnswered.{KeepsCalls, calling_on}
 use Rattle.nm_calls.specs.declared.read_out.ReadOut.{ReadOut}
 use Rattle.nm_calls.specs.declared.write_out.WriteOut.{WriteOut}
 use Rattle.nm_calls.specs.CallsOut.{Calling, CallsOut, no_calls}

@@ -1,6 +1,6 @@
 -- A write of a stripe whose calls may be out: an answer keeps what holds of the stripe and of its
 -- calls, and is explained, on all legs as they were answered.
-use Rattle.std.proofs.Common.{◌≡◌, ℕ, zero, suc, ◌+◌, ◌/◌, ◌<◌, Bool, true, false, cond, List, [], ◌∷◌, length, None, Option, Some, refl, sym, ap, ◌∙◌, subst, arith, slice_get, slice_set}
+use Rattle.std.proofs.Common.{◌≡◌, ℕ, zero, suc, ◌/◌, ◌<◌, Bool, true, false, cond, List, [], ◌∷◌, length, None, Option, Some, refl, sym, ap, ◌∙◌, subst, arith, slice_get, slice_set}
 use Rattle.nm_calls.specs.Answers.{HaltsOut, LosesWriteOut, ReachesOut, calls_lost, calls_without, reads_over, returned_on, run_answered, write_returned, written_in}
 use Rattle.nm_calls.specs.AsAnswered.{KeepsCalls, answered, calling_on, stripe_on}
 use Rattle.nm_calls.specs.CallsOut.{Calling, CallsOut, is_out_on, on_leg}

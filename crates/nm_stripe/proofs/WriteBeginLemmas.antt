@@ -1,6 +1,6 @@
 -- A write of a stripe whose calls may be out: its begin, its hand-outs and its claim keep what holds of
 -- the stripe and of its calls, on all legs as they were answered.
-use Rattle.std.proofs.Common.{◌≡◌, ℕ, ◌+◌, Bool, true, false, cond, List, [], ◌∷◌, length, None, Option, Some, refl, sym, ap, ◌∙◌, subst, arith}
+use Rattle.std.proofs.Common.{◌≡◌, ℕ, ◌+◌, Bool, true, false, cond, List, [], ◌∷◌, length, None, refl, sym, ap, ◌∙◌, subst, arith}
 use Rattle.nm_calls.specs.AsAnswered.{KeepsCalls, answered, calling_on, stripe_on}
 use Rattle.nm_calls.specs.Asking.{AsksWrite, ask_begin_cause}
 use Rattle.nm_calls.specs.CallsOut.{Calling, CallsOut, is_out_on, is_read_on}

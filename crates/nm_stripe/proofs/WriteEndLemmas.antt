@@ -1,5 +1,5 @@
 -- The end of a write's call in its parts: what was done to the stripe, and what to its calls.
-use Rattle.std.proofs.Common.{◌≡◌, ℕ, ◌/◌, Bool, true, false, List, length, IsSome, is_some, Option, Some, refl, sym, ap, ◌∙◌, subst}
+use Rattle.std.proofs.Common.{◌≡◌, ℕ, ◌/◌, Bool, true, false, length, IsSome, Some, refl, sym, ap, ◌∙◌, subst}
 use Rattle.nm_calls.specs.Answers.{calls_without, reads_over, run_answered, write_returned, written_in}
 use Rattle.nm_calls.specs.CallsOut.{Calling, CallsOut, on_leg}
 use Rattle.nm_fanout.specs.declared.write_record.Record.{Record}
@@ -8,7 +8,7 @@ use Rattle.nm_fanout.specs.Records.{find_record}
 use Rattle.nm_leg.specs.Leg.{Leg}
 use Rattle.nm_rules.specs.Lost.{lost}
 use Rattle.nm_rules.specs.Push.{IsComplete, StillOwes}
-use Rattle.nm_rules.specs.RunPush.{CallsToPushRun, after_push_run, run_lands}
+use Rattle.nm_rules.specs.RunPush.{CallsToPushRun}
 use Rattle.nm_rules.specs.Runs.{find_run, of_run}
 use Rattle.nm_rules.specs.State.{StripeState, is_last}
 use Rattle.nm_stripe.specs.declared.calling_writes.WriteAnswer.TheVariants.{Complete, Halted, LegLost, Pushed}
@@ -19,7 +19,7 @@ use Rattle.nm_stripe.specs.Ends.{EndsPush, after_reaching}
 use Rattle.nm_stripe.proofs.AnswerLemmas.{both-are}
 use Rattle.nm_stripe.proofs.CallingLemmas.{any_legs}
 use Rattle.nm_stripe.proofs.PushLemmas.{pushes, went-landed}
-use Rattle.nm_stripe.proofs.WriteAnswerLemmas.{Owed, any-writes, owed-block, owed-inside}
+use Rattle.nm_stripe.proofs.WriteAnswerLemmas.{Owed, any-writes, owed-inside}
 
 module _ {L : Type 0} (s new : StripeState L) (run leg : ℕ) where
   -- the run has reached the leg

@@ -1,8 +1,8 @@
 -- What was found is kept, and the read is taken off.
-use Rattle.std.proofs.Common.{◌≡◌, ℕ, ◌+◌, ◌≤◌, ◌^◌, length, ap, arith}
+use Rattle.std.proofs.Common.{◌≡◌, ◌+◌, ◌^◌, length, arith}
 use Rattle.nm_calls.specs.Answers.{read_answered}
 use Rattle.nm_fanout.specs.Records.{unlanded}
-use Rattle.nm_leg.specs.Leg.{blocks_in, blocks_of}
+use Rattle.nm_leg.specs.Leg.{blocks_of}
 use Rattle.nm_rules.specs.Read.{turn_after}
 use Rattle.nm_rules.specs.RunRead.{after_read_run, last_block}
 use Rattle.nm_rules.specs.State.{next_number}

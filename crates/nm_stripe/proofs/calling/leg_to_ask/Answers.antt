@@ -1,5 +1,5 @@
 -- The first condition that holds is found.
-use Rattle.std.proofs.Common.{◌≡◌, ◌+◌, ◌<◌, ◌^◌, arith}
+use Rattle.std.proofs.Common.{arith}
 use Rattle.nm_stripe.proofs.CallingLemmas.{left-below, left-out}
 use Rattle.nm_stripe.proofs.calling.leg_to_ask.Goals as goal
 

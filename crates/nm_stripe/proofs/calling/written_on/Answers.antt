@@ -1,5 +1,5 @@
 -- The first call that is such a one is found.
-use Rattle.std.proofs.Common.{◌≡◌, Option, Some, option_map, sym, ap, ◌∙◌, arith}
+use Rattle.std.proofs.Common.{Option, option_map, sym, ap, ◌∙◌, arith}
 use Rattle.nm_calls.specs.declared.write_out.WriteOut.{WriteOut}
 use Rattle.nm_stripe.proofs.CallingLemmas.{find-hit, find-miss, find-none, is_there_by}
 use Rattle.nm_stripe.proofs.calling.written_on.Goals as goal

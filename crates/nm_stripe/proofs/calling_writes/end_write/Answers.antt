@@ -1,5 +1,5 @@
 -- What was done to the stripe, and what to its calls.
-use Rattle.std.proofs.Common.{◌≡◌, ℕ, ap, ◌∙◌, refl}
+use Rattle.std.proofs.Common.{ℕ, ap, ◌∙◌, refl}
 use Rattle.nm_calls.specs.Answers.{calls_without}
 use Rattle.nm_stripe.proofs.WriteEndLemmas.{complete-out, halted-out, lost-out, pushed-out}
 use Rattle.nm_stripe.proofs.calling_writes.end_write.Goals as goal

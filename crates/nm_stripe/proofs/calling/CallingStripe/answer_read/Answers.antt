@@ -2,7 +2,7 @@
 use Rattle.nm_leg.specs.Leg.{Leg}
 use Rattle.nm_leg.specs.declared.call_tag.CallOf.{CallOf}
 use Rattle.nm_leg.specs.declared.call_tag.CallTag.{CallTag}
-use Rattle.std.proofs.Common.{◌≡◌, ℕ, Bool, true, false, List, [], None, Some, Result, Ok, refl, sym, ap, ◌∙◌, subst}
+use Rattle.std.proofs.Common.{◌≡◌, ℕ, Bool, List, None, Some, Result, Ok, refl, sym, ap, ◌∙◌, subst}
 use Rattle.nm_calls.specs.Answers.{read_answered}
 use Rattle.nm_calls.specs.AsAnswered.{KeepsCalls, answered, calling_on}
 use Rattle.nm_calls.specs.CallsOut.{Calling}
@@ -10,7 +10,7 @@ use Rattle.nm_calls.specs.Numbers.{HasNumbersLeft}
 use Rattle.nm_rules.specs.declared.refusal.Refusal.{Refusal}
 use Rattle.nm_stripe.specs.declared.calling.ReadAnswer.{ReadAnswer}
 use Rattle.nm_stripe.specs.declared.calling.ReadAnswer.TheVariants.{Again}
-use Rattle.nm_stripe.specs.Calling.{AnswersRead, CallsRead, EndsOut, IsExplainedAnswer, counts_not, read_of}
+use Rattle.nm_stripe.specs.Calling.{AnswersRead, CallsRead, EndsOut, IsExplainedAnswer, read_of}
 use Rattle.nm_stripe.proofs.AnswerLemmas.{AnswerIs, answer-is, answer-inside, both-are, may-end, said-ends, said-none, said-void}
 use Rattle.nm_stripe.proofs.calling.CallingStripe.answer_read.Goals as goal
 

@@ -1,12 +1,10 @@
 -- An answer is read off what is out, and the lemmas on the ends of writes do the rest.
-use Rattle.nm_leg.specs.Leg.{Leg}
 use Rattle.nm_leg.specs.declared.call_tag.CallTag.{CallTag}
-use Rattle.std.proofs.Common.{rules, ◌≡◌, ℕ, Bool, None, Some, IsSome, is_some, Option, refl, sym, ap, ◌∙◌, subst}
+use Rattle.std.proofs.Common.{◌≡◌, Bool, None, Some, is_some, Option, refl, sym, ap, subst}
 use Rattle.nm_calls.specs.CallsOut.{Calling, CallsOut}
 use Rattle.nm_fanout.specs.declared.write_record.Record.{Record}
 use Rattle.nm_stripe.specs.declared.calling_writes.WriteAnswer.TheVariants.{Late}
 use Rattle.nm_stripe.specs.CallingWrites.{run_of}
-use Rattle.nm_stripe.proofs.AnswerLemmas.{both-are}
 use Rattle.nm_stripe.proofs.CallingLemmas.{any_legs}
 use Rattle.nm_stripe.proofs.WriteAnswerLemmas.{Owed, SaysWrite, owed-block, owed-inside, owed-record, says-end, says-late, says-none}
 use Rattle.nm_stripe.proofs.WriteEndLemmas.{owed-landed}

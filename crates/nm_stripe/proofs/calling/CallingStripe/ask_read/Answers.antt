@@ -1,5 +1,4 @@
 -- The read is handed out, where no write is in its way.
-use Rattle.nm_leg.specs.Leg.{Leg}
 use Rattle.std.proofs.Common.{◌≡◌, ℕ, None, Some, sym, ap, subst}
 use Rattle.nm_calls.specs.AsAnswered.{KeepsCalls, answered, calling_on}
 use Rattle.nm_calls.specs.Asking.{AsksRead, ask_read_cause}

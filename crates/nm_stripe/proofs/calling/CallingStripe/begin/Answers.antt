@@ -1,5 +1,4 @@
 -- A begin is the store's, and the lemmas on begins do the rest.
-use Rattle.nm_leg.specs.Leg.{Leg}
 use Rattle.std.proofs.Common.{rules, ◌≡◌, None, refl, sym, subst}
 use Rattle.nm_calls.specs.AsAnswered.{KeepsCalls, answered, calling_on}
 use Rattle.nm_calls.specs.Asking.{ask_begin_cause}

@@ -1,5 +1,4 @@
 -- A claim is read off its calls once, and the lemmas on claims do the rest.
-use Rattle.nm_leg.specs.Leg.{Leg}
 use Rattle.std.proofs.Common.{rules, ◌≡◌, None, refl, sym, subst}
 use Rattle.nm_calls.specs.AsAnswered.{KeepsCalls, answered, calling_on}
 use Rattle.nm_calls.specs.CallsOut.{Calling}

@@ -1,7 +1,6 @@
 -- A write's call is handed out, or it waits.
-use Rattle.nm_leg.specs.Leg.{Leg}
 use Rattle.nm_leg.specs.declared.asks.Asks.{Asks}
-use Rattle.std.proofs.Common.{rules, ◌≡◌, None, IsSome, refl, sym, ap, ◌∙◌, subst}
+use Rattle.std.proofs.Common.{sym, ap, ◌∙◌, subst}
 use Rattle.nm_calls.specs.AsAnswered.{KeepsCalls, answered, calling_on}
 use Rattle.nm_calls.specs.CallsOut.{Calling, CallsOut}
 use Rattle.nm_rules.specs.RunPush.{written_by}
