@@ -1,6 +1,6 @@
 -- Steps of a copy that make their call at once, while reads and writes are out: what holds of the
 -- calls holds still.
-use Rattle.std.proofs.Common.{◌≡◌, ◌⊎◌, ⊎_elim, ℕ, zero, suc, ◌+◌, ◌/◌, ◌%◌, ◌<◌, ◌≤◌, ◌==◌, ◌&&◌, ◌||◌, Bool, true, false, not, IsTrue, List, [], ◌∷◌, length, None, Option, Some, cond, get_or, min, refl, sym, ap, ◌∙◌, subst, arith, slice_get, slice_set, inl, inr, take, drop, ◌*◌, ◌-◌, nat_lt}
+use Rattle.std.proofs.Common.{◌≡◌, ⊎_elim, ℕ, zero, suc, ◌+◌, ◌/◌, ◌%◌, ◌<◌, ◌≤◌, ◌==◌, ◌&&◌, ◌||◌, Bool, true, false, not, IsTrue, List, [], ◌∷◌, length, None, Option, Some, cond, get_or, min, refl, sym, ap, ◌∙◌, subst, arith, slice_get, slice_set, inl, inr, take, drop, ◌*◌, ◌-◌, nat_lt}
 use Rattle.nm_replay.specs.declared.block.Block.{Block}
 use Rattle.nm_leg.specs.Leg.{IsOutside, LegType}
 use Rattle.nm_regions.specs.declared.copy_place.CopyPlace.{CopyPlace}

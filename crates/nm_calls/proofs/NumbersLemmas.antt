@@ -3,7 +3,6 @@
 use Rattle.std.proofs.Common.{◌≡◌, ℕ, zero, suc, ◌+◌, ◌<◌, ◌≤◌, ◌==◌, ◌^◌, true, false, List, [], ◌∷◌, Some, cond, drop, get_or, length, map, max, nat_lt, refl, sym, ap, ◌∙◌, subst, arith}
 use Rattle.std.proofs.lemmas.Bool.Decides.{nat_tests}
 use Rattle.std.proofs.lemmas.List.Sums.{sum_by-cons}
-use Rattle.nm_fanout.specs.declared.write_record.Record.{Record}
 use Rattle.nm_fanout.specs.Records.{unlanded}
 use Rattle.nm_fanout.specs.Record.{without_leg}
 use Rattle.nm_rules.specs.Lost.{failed_over, lost, settled, without_leg_of}
@@ -12,7 +11,7 @@ use Rattle.nm_rules.specs.State.{StripeState, next_number}
 use Rattle.nm_rules.proofs.LandingLemmas.{unlanded-all}
 use Rattle.nm_rules.proofs.LeftLemmas.{unlanded-without}
 use Rattle.nm_calls.specs.Answers.{calls_lost, read_answered, voided_without}
-use Rattle.nm_calls.specs.CallsOut.{Calling, CallsOut, ReadOut, find_read, without_read}
+use Rattle.nm_calls.specs.CallsOut.{Calling, ReadOut, find_read, without_read}
 use Rattle.nm_calls.specs.Numbers.{HasNumbersLeft, blocks_out}
 use Rattle.nm_calls.proofs.TakenLemmas.{taken-sums}
 use Rattle.nm_calls.proofs.VoidingLemmas.{voids-sums, voids-without}

@@ -1,6 +1,6 @@
 -- The numbers that are kept are kept through the steps of a write: as it begins, reaches a leg and is
 -- claimed.
-use Rattle.std.proofs.Common.{◌≡◌, ◌≢◌, ℕ, ◌+◌, ◌<◌, ◌≤◌, ◌==◌, ◌&&◌, ◌||◌, ◌^◌, Bool, true, false, not, cond, List, [], ◌∷◌, ◌++◌, length, max, Option, None, Some, is_none, is_some, option_map, refl, sym, ap, ◌∙◌, subst, arith}
+use Rattle.std.proofs.Common.{◌≡◌, ◌≢◌, ℕ, ◌+◌, ◌<◌, ◌≤◌, ◌==◌, ◌||◌, ◌^◌, Bool, true, false, not, cond, List, [], ◌∷◌, ◌++◌, length, max, Option, None, Some, is_none, is_some, option_map, refl, sym, ap, ◌∙◌, subst, arith}
 use Rattle.std.proofs.lemmas.Bool.{and_parts, eqb-true}
 use Rattle.std.proofs.lemmas.List.Sums.{sum_by-append, sum_by-cons}
 use Rattle.nm_fanout.proofs.Finding.{find_record-changed_other, find_record-changed_same}
@@ -19,7 +19,7 @@ use Rattle.nm_rules.specs.Runs.{AreOwed, is_exhausted_by, of_run}
 use Rattle.nm_rules.specs.State.{StripeState, next_number, table}
 use Rattle.nm_rules.proofs.RunBeginLemmas.{at_most}
 use Rattle.nm_calls.specs.Answers.{reads_over, run_answered}
-use Rattle.nm_calls.specs.CallsOut.{Calling, CallsOut, ReadOut}
+use Rattle.nm_calls.specs.CallsOut.{Calling, CallsOut}
 use Rattle.nm_calls.specs.Numbers.{HasNumbersLeft, blocks_out}
 use Rattle.nm_calls.proofs.VoidingLemmas.{voids-at, voids-sums}
 

@@ -1,11 +1,10 @@
 -- A run is under way on some blocks where one of its blocks is; and what a leg is asked for writes the
 -- run's blocks.
 use Rattle.nm_leg.specs.declared.asks.Asks.{Asks}
-use Rattle.std.proofs.Common.{◌≡◌, ℕ, ◌+◌, ◌*◌, ◌/◌, ◌<◌, ◌≤◌, ◌==◌, ◌&&◌, ◌||◌, Bool, true, false, cond, IfOk, Result, List, [], ◌∷◌, ◌++◌, length, Option, None, Some, is_some, refl, sym, ap, ◌∙◌, subst, arith, append-nil, slice_get}
+use Rattle.std.proofs.Common.{◌≡◌, ℕ, ◌<◌, ◌==◌, ◌&&◌, ◌||◌, Bool, true, false, cond, IfOk, Result, List, [], ◌∷◌, ◌++◌, Option, None, Some, is_some, refl, sym, ap, ◌∙◌, arith, append-nil, slice_get}
 use Rattle.std.specs.List.{list_any}
 use Rattle.std.specs.Option.{option_map}
 use Rattle.nm_replay.specs.declared.block.Block.{Block}
-use Rattle.nm_fanout.specs.declared.record_data.RecordData.{RecordData}
 use Rattle.nm_fanout.specs.declared.record_data.RecordData.TheVariants.{Cut, Zero, Merged}
 use Rattle.nm_fanout.specs.declared.write_record.Record.{Record}
 use Rattle.nm_fanout.specs.Record.{is_under_way}
@@ -13,9 +12,8 @@ use Rattle.nm_fanout.specs.RecordData.{FillsBlocks, bytes_of, zero_bytes}
 use Rattle.nm_fanout.specs.Records.{IsAt, busy_among, find_record, is_among}
 use Rattle.nm_fanout.specs.Runs.{AllRuns, AreRuns, flat, laid_out, meets, run_busy_among}
 use Rattle.nm_fanout.proofs.FlatSteps.{flat-busy}
-use Rattle.nm_fanout.proofs.RunOrder.{run-at}
 use Rattle.nm_leg.specs.declared.asks.Asks.TheVariants.{Merged as AsksMerged, Write, Zero as AsksZero}
-use Rattle.nm_leg.specs.Leg.{blocks_in, blocks_of}
+use Rattle.nm_leg.specs.Leg.{blocks_of}
 use Rattle.nm_rules.specs.Runs.{find_run, of_run}
 use Rattle.nm_rules.proofs.RunCallLemmas.{length-blocks}
 use Rattle.nm_store.specs.Asking.{WritesBlocks}

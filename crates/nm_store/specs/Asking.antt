@@ -1,8 +1,8 @@
 -- What a leg is asked for, to write the blocks of a run.
-use Rattle.std.specs.Prelude.{◌≡◌, ℕ, ◌*◌, List, length}
+use Rattle.std.specs.Prelude.{◌≡◌, ◌*◌, List, length}
 use Rattle.nm_replay.specs.declared.block.Block.{Block}
 use Rattle.nm_leg.specs.declared.asks.Asks.{Asks}
-use Rattle.nm_leg.specs.declared.asks.Asks.TheVariants.{Read, Write, Zero, Merged, Sync}
+use Rattle.nm_leg.specs.declared.asks.Asks.TheVariants.{Write, Zero, Merged}
 use Rattle.nm_leg.specs.Call.{zero_blocks}
 use Rattle.nm_leg.specs.Leg.{blocks_of}
 

@@ -1,5 +1,5 @@
 -- Where the run lands the reads are looked at one by one.
-use Rattle.std.proofs.Common.{◌≡◌, Bool, true, false, List, length, map, sym, ap, ◌∙◌}
+use Rattle.std.proofs.Common.{◌≡◌, Bool, List, length, map, sym, ap, ◌∙◌}
 use Rattle.std.specs.Vec.{with_items}
 use Rattle.std.proofs.lemmas.List.{length-map, with_items_is}
 use Rattle.nm_calls.specs.Answers.{reads_over, written_in}

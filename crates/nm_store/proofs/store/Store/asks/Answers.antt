@@ -1,15 +1,13 @@
 -- What is written is what the run's blocks hold.
-use Rattle.std.proofs.Common.{◌≡◌, List, IsSome, Some, sym, ap, ◌∙◌, subst}
+use Rattle.std.proofs.Common.{◌≡◌, List, IsSome, sym, ap, ◌∙◌, subst}
 use Rattle.nm_replay.specs.declared.block.Block.{Block}
 use Rattle.nm_fanout.specs.declared.write_record.Record.{Record}
 use Rattle.nm_fanout.specs.RecordData.{bytes_of}
 use Rattle.nm_fanout.proofs.RunOrder.{run-at}
-use Rattle.nm_leg.specs.declared.asks.Asks.{Asks}
 use Rattle.nm_leg.specs.Leg.{blocks_of}
 use Rattle.nm_rules.specs.RunPush.{written_by}
 use Rattle.nm_rules.specs.Runs.{find_run, of_run}
 use Rattle.nm_rules.specs.State.{StripeState}
-use Rattle.nm_store.specs.Asking.{WritesBlocks}
 use Rattle.nm_store.specs.Inside.{state_of}
 use Rattle.nm_store.proofs.AskingLemmas.{all-ok}
 use Rattle.nm_store.proofs.RunEntryLemmas.{written-run}

@@ -1,5 +1,5 @@
 -- The run's blocks follow one another, each is owed, and it takes effect as its first block does.
-use Rattle.std.proofs.Common.{◌≡◌, ℕ, ◌+◌, ◌≤◌, ◌==◌, ◌&&◌, Bool, List, None, length, is_none, refl, sym, ap, ◌∙◌, subst}
+use Rattle.std.proofs.Common.{◌≡◌, ℕ, ◌≤◌, List, None, length, refl, sym, ap, ◌∙◌, subst}
 use Rattle.nm_fanout.specs.declared.write_record.Record.{Record}
 use Rattle.nm_fanout.specs.RecordData.{blocks_in}
 use Rattle.nm_fanout.proofs.Laying.{length-run}
