@@ -1,6 +1,6 @@
 //! A stripe whose calls may be out: they are handed out, made elsewhere, and answered.
-ghost use Rattle.std.specs.Prelude.{◌≡◌, ◌⊎◌, ◌↔◌, ◌+◌, ◌*◌, ◌^◌, ◌<◌, ◌≤◌, ◌==◌, ◌&&◌, false};
-ghost use Rattle.std.specs.Prelude.{IfErr, IfOk, IsTrue, List, None, OnErr, OnOk, Some, length, max};
+ghost use Rattle.std.specs.Prelude.{◌≡◌, ◌⊎◌, ◌↔◌, ◌+◌, ◌*◌, ◌^◌, ◌<◌, ◌≤◌, ◌==◌, ◌&&◌, false, max};
+ghost use Rattle.std.specs.Prelude.{IfErr, IfOk, IsTrue, List, None, OnErr, OnOk, Some, length};
 ghost use Rattle.std.specs.Option.{option_map};
 ghost use Rattle.nm_calls.specs.AsAnswered.{KeepsCalls, answered, calling_on};
 ghost use Rattle.nm_calls.specs.Asking.{ask_read_cause, is_busy_by, written_on};
