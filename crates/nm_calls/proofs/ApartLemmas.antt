@@ -144,6 +144,7 @@ reads-keep type x c has may =
     record {
       owed = has.owed;
       asked = has.asked;
+      named = has.named;
       runs = λ t y at.
           ⊎_elim
           (λ same. subst (λ (z : ReadOut). FitsRun c.stripe.place z.block z.count) same.0 may.fits)

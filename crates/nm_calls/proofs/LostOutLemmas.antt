@@ -1,34 +1,34 @@
--- A read that was out and counts is answered: its leg failed, and goes out. Each read that counts
--- afterwards is of another leg, and the master is who it was.
-use Rattle.std.proofs.Common.{◌≡◌, ◌≢◌, ℕ, ◌/◌, ◌==◌, ◌&&◌, ◌||◌, Bool, true, false, not, IsTrue, List, [], ◌∷◌, None, Option, Some, cond, map, refl, sym, ap, ◌∙◌, subst, arith, slice_get, inl, inr, ne_eqb, eq-eqb, sum_by}
+-- A leg goes out while calls are out: each read that counts afterwards is of another leg, and the
+-- master is who it was; no write is out on the leg, for they are late.
+use Rattle.std.proofs.Common.{◌≡◌, ◌≢◌, ℕ, ◌/◌, ◌<◌, ◌≤◌, ◌==◌, ◌&&◌, ◌||◌, Bool, true, false, not, IsTrue, List, [], None, Option, Some, cond, filter, refl, sym, ap, ◌∙◌, subst, arith, slice_get, inl, inr, ne_eqb, eq-eqb}
 use Rattle.std.specs.List.{list_any}
+use Rattle.std.proofs.lemmas.Bool.{and_parts}
 use Rattle.std.proofs.lemmas.Bool.Decides.{eqb_tells}
 use Rattle.std.proofs.lemmas.List.{get_or-set_other}
-use Rattle.std.proofs.lemmas.List.Sums.{sum_by-cons}
-use Rattle.std.proofs.lemmas.Option.{same_Some}
 use Rattle.nm_replay.specs.declared.block.Block.{Block}
-use Rattle.nm_leg.specs.Leg.{LegType, block_of}
+use Rattle.nm_fanout.specs.declared.write_record.Record.{Record}
+use Rattle.nm_fanout.specs.Record.{owes}
+use Rattle.nm_fanout.specs.Records.{find_record}
+use Rattle.nm_leg.specs.Leg.{LegType}
 use Rattle.nm_regions.specs.declared.copy_place.CopyPlace.{CopyPlace}
 use Rattle.nm_regions.specs.Changes.{copy_but_of}
-use Rattle.nm_regions.specs.LegFlags.{LegRegions, is_behind, no_leg}
+use Rattle.nm_regions.specs.LegFlags.{LegRegions, all_marked, is_behind, no_leg}
 use Rattle.nm_regions.specs.Table.{has_copied, leg_at, place_of}
-use Rattle.nm_rules.specs.Acts.{IsExplainedStep}
-use Rattle.nm_rules.specs.Array.{contents_of, stripe_array}
+use Rattle.nm_rules.specs.Acts.{Acts}
+use Rattle.nm_rules.specs.Array.{contents_of}
 use Rattle.nm_rules.specs.Invariant.{Keeps}
-use Rattle.nm_rules.specs.Lost.{dirty_and_out, failed_over, lost, settled, without_leg_of}
-use Rattle.nm_rules.specs.declared.at.At.{At}
-use Rattle.nm_rules.specs.Runs.{FitsRun}
-use Rattle.nm_rules.specs.State.{StripeState, is_current, is_last, is_out, leg_state, table}
-use Rattle.nm_rules.proofs.LosesLemmas.{read-loses}
-use Rattle.nm_rules.proofs.LostLemmas.{Loses, lost-acts, lost-keeps, lost-unseen}
-use Rattle.nm_rules.proofs.OutLemmas.{LosesLeg}
-use Rattle.nm_rules.proofs.RelabelLemmas.{current-attached}
-use Rattle.nm_rules.proofs.RunCallLemmas.{failed-read}
-use Rattle.nm_calls.specs.Answers.{LosesOut, calls_without, read_answered, voided_without}
-use Rattle.nm_calls.specs.CallsOut.{Calling, CallsOut, ReadOut, WriteOut, find_read, is_asked_on, is_call_of, is_out_on, voided, without_read}
+use Rattle.nm_rules.specs.Lost.{chunk_but_of, dirty_and_out, failed_over, lost, lost_all, settled, without_leg_of}
+use Rattle.nm_rules.specs.State.{Chunk, StripeState, is_current, next_number, table}
+use Rattle.nm_rules.proofs.LeftLemmas.{AreLeft, landed-left, left-found, left-owes_other, left-under_way, without-left}
+use Rattle.nm_rules.proofs.LostLemmas.{Loses, lost-keeps, lost-unseen, lost_all-keeps, lost_all-unseen}
+use Rattle.nm_calls.specs.Answers.{calls_lost, calls_without, closed, copy_without, is_being_read, is_copied_to, voided_without}
+use Rattle.nm_calls.specs.CallsOut.{Calling, CallsOut, ReadOut, WriteOut, count_out, is_asked_on, is_call_of, is_out_on, voided}
 use Rattle.nm_calls.specs.HasCalls.{HasCalls, HasChunkCall, IsStanding}
-use Rattle.nm_calls.proofs.ReadEndLemmas.{among}
-use Rattle.nm_calls.proofs.TakenLemmas.{find-taken, taken-counted}
+use Rattle.nm_calls.proofs.ActsOverLemmas.{acts-hold}
+use Rattle.nm_calls.proofs.CarriedLemmas.{Carries, StillOut, carried}
+use Rattle.nm_calls.proofs.ReturnedLemmas.{any-then, none-of, on-leg_at}
+use Rattle.nm_calls.proofs.VoidingLemmas.{looked, voids-found, voids-sums, voids-without}
+use Rattle.nm_calls.proofs.WriteOutLemmas.{part-counts, part-has}
 
 -- a copy of another leg goes on
 copied-other : (leg j region place : ℕ) (copy : Option CopyPlace) → j ≢ leg → has_copied j region place (copy_but_of leg copy) ≡ has_copied j region place copy
@@ -41,53 +41,85 @@ copied-other leg j region place (Some c) ne =
       | inr w ↦ rw w.0 refl
     ]
 
-module _ {L : Type 0} (s : StripeState L) (leg : ℕ) where
+-- what a stripe is once a leg has gone out, as far as its calls go
+record LeftBy {L : Type 0} (leg : ℕ) (s : StripeState L) (legs : List L) (to : StripeState L) : Type 0 where
+  place : to.place ≡ s.place
+  legs_are : to.legs ≡ legs
+  stopped : to.stopped ≡ s.stopped
+  tickets : to.tickets ≡ s.tickets
+  records : AreLeft leg s.records to.records
+  chunk : to.chunk ≡ chunk_but_of leg s.copy s.chunk
+  current : (j b : ℕ) → j ≢ leg → is_current j b to ≡ is_current j b s
+
+module _ {L : Type 0} (s : StripeState L) (legs : List L) (leg : ℕ) where
+  abbrev mid : StripeState L
+  mid = record s { legs = legs }
+
   abbrev out : StripeState L
-  out = without_leg_of leg s
+  out = without_leg_of leg mid
+
+  -- whichever it was, the master or another
+  either-leg : (P : StripeState L → Type 0) → P (settled (failed_over out)) → P (settled out) → P (lost leg mid)
+  either-leg P failed other =
+      elim (leg == s.master) as (λ m. P (settled (cond m (failed_over out) out))) [
+        | true ↦ failed
+        | false ↦ other
+      ]
 
   -- where another leg is current stays
-  current-other : (j b : ℕ) → j ≢ leg → is_current j b out ≡ is_current j b s
-  current-other j b ne =
-      let flag : leg_at j (table out) ≡ leg_at j (table s) = get_or-set_other s.flags leg j (dirty_and_out (table s).writes (leg_at leg (table s))) no_leg ne in
+  current-other : (flags : List LegRegions) (j b : ℕ) → leg_at j (record (table out) { legs = flags }) ≡ leg_at j (table s) → j ≢ leg
+      → is_current j b (record out { flags = flags }) ≡ is_current j b s
+  current-other flags j b flag ne =
       ap (λ (l : LegRegions). (not l.out && not (is_behind (b / s.place.region) l)) || has_copied j (b / s.place.region) (place_of b (table s)) (copy_but_of leg s.copy)) flag
       ∙ ap (λ (v : Bool). (not (leg_at j (table s)).out && not (is_behind (b / s.place.region) (leg_at j (table s)))) || v) (copied-other leg j (b / s.place.region) (place_of b (table s)) s.copy ne)
 
-  lost-current : (j b : ℕ) → j ≢ leg → is_current j b (lost leg s) ≡ is_current j b s
-  lost-current j b ne =
-      elim (leg == s.master) as (λ m. is_current j b (settled (cond m (failed_over out) out)) ≡ is_current j b s) [
-        | true ↦ current-other j b ne
-        | false ↦ current-other j b ne
-      ]
+  one-set : (j : ℕ) → j ≢ leg → leg_at j (table out) ≡ leg_at j (table s)
+  one-set j ne = get_or-set_other s.flags leg j (dirty_and_out (table s).writes (leg_at leg (table s))) no_leg ne
 
-  pub lost-legs : (lost leg s).legs ≡ s.legs
-  lost-legs = elim (leg == s.master) as (λ m. (settled (cond m (failed_over out) out)).legs ≡ s.legs) [ true ↦ refl | false ↦ refl ]
+  lost-left : LeftBy leg s legs (lost leg mid)
+  lost-left = record {
+    place = either-leg (λ t. t.place ≡ s.place) refl refl;
+    legs_are = either-leg (λ t. t.legs ≡ legs) refl refl;
+    stopped = either-leg (λ t. t.stopped ≡ s.stopped) refl refl;
+    tickets = either-leg (λ t. t.tickets ≡ s.tickets) refl refl;
+    records = either-leg (λ t. AreLeft leg s.records t.records)
+        (landed-left leg (next_number out) s.records out.records (without-left leg s.records))
+        (without-left leg s.records);
+    chunk = either-leg (λ t. t.chunk ≡ chunk_but_of leg s.copy s.chunk) refl refl;
+    current = λ j b ne. either-leg (λ t. is_current j b t ≡ is_current j b s)
+        (current-other out.flags j b (one-set j ne) ne) (current-other out.flags j b (one-set j ne) ne);
+  }
 
-  lost-place : (lost leg s).place ≡ s.place
-  lost-place = elim (leg == s.master) as (λ m. (settled (cond m (failed_over out) out)).place ≡ s.place) [ true ↦ refl | false ↦ refl ]
+  -- the flags with all of the leg's regions behind
+  abbrev all_flags : List LegRegions
+  all_flags = (lost_all leg mid).flags
 
--- what is found among reads that were looked at was there before, and the same if it counts
-record Looked (leg master : ℕ) (y : ReadOut) (t : ℕ) (reads : List ReadOut) : Type 0 where
-  was : ReadOut
-  found : find_read t reads ≡ Some was
-  is : y ≡ voided_without leg master was
+  flags-are : (lost leg mid).flags ≡ out.flags
+  flags-are = either-leg (λ t. t.flags ≡ out.flags) refl refl
 
-looked : (leg master : ℕ) (y : ReadOut) (t : ℕ) (reads : List ReadOut) → find_read t (map (voided_without leg master) reads) ≡ Some y → Looked leg master y t reads
-looked leg master y t [] at = absurd (let e : ⊥ = cc in e)
-looked leg master y t (z ∷ zs) at =
-    let own : (voided_without leg master z).ticket ≡ z.ticket =
-    elim ((leg == master) || (z.leg == leg)) as (λ b. (cond b (voided z) z).ticket ≡ z.ticket) [ true ↦ refl | false ↦ refl ] in
-    (elim (z.ticket == t) as (λ b. (z.ticket == t) ≡ b → cond b (Some (voided_without leg master z)) (find_read t (map (voided_without leg master) zs)) ≡ Some y → Looked leg master y t (z ∷ zs)) [
-      | true ↦ λ same some. record { was = z; found = ap (λ (b : Bool). cond b (Some z) (find_read t zs)) same; is = sym (same_Some _ _ some) }
-      | false ↦ λ other some.
-          let behind = looked leg master y t zs some in
-          record { was = behind.was; found = ap (λ (b : Bool). cond b (Some z) (find_read t zs)) other ∙ behind.found; is = behind.is }
-    ]) refl (ap (λ (n : ℕ). cond (n == t) (Some (voided_without leg master z)) (find_read t (map (voided_without leg master) zs))) (sym own) ∙ at)
+  two-set : (j : ℕ) → j ≢ leg → leg_at j (table (lost_all leg mid)) ≡ leg_at j (table s)
+  two-set j ne =
+      get_or-set_other (lost leg mid).flags leg j (all_marked (leg_at leg (table (lost leg mid)))) no_leg ne
+      ∙ ap (λ (flags : List LegRegions). leg_at j (record (table s) { legs = flags })) flags-are
+      ∙ one-set j ne
 
--- one that counts is of another leg, and the leg was not the master
-record Stays (leg master : ℕ) (y was : ReadOut) : Type 0 where
-  same : y ≡ was
-  other : y.leg ≢ leg
-  not_master : master ≢ leg
+  current-all : (j b : ℕ) → j ≢ leg → is_current j b (lost_all leg mid) ≡ is_current j b s
+  current-all j b ne =
+      either-leg (λ t. is_current j b (record t { flags = all_flags }) ≡ is_current j b s)
+      (current-other all_flags j b (two-set j ne) ne) (current-other all_flags j b (two-set j ne) ne)
+
+  lost_all-left : LeftBy leg s legs (lost_all leg mid)
+  lost_all-left =
+      let l = lost-left in
+      record {
+        place = l.place;
+        legs_are = l.legs_are;
+        stopped = l.stopped;
+        tickets = l.tickets;
+        records = l.records;
+        chunk = l.chunk;
+        current = current-all;
+      }
 
 or-off : (a b : Bool) → (a || b) ≡ false → (a ≡ false) × (b ≡ false)
 or-off true b is = cc
@@ -96,148 +128,121 @@ or-off false b is = (refl, is)
 not-same : (m n : ℕ) → (m == n) ≡ false → m ≢ n
 not-same m n ne e = let yes : (m == n) ≡ true = eq-eqb m n e in let clash : true ≡ false = sym yes ∙ ne in cc
 
-stays : (leg master : ℕ) (y was : ReadOut) → y ≡ voided_without leg master was → y.void ≡ false → Stays leg master y was
-stays leg master y was is counts =
-    (elim ((leg == master) || (was.leg == leg)) as (λ b. ((leg == master) || (was.leg == leg)) ≡ b → y ≡ cond b (voided was) was → Stays leg master y was) [
-      | true ↦ λ on e. absurd (let v : y.void ≡ true = ap (λ (z : ReadOut). z.void) e in let clash : true ≡ false = sym v ∙ counts in cc)
+-- a read that counts is of another leg, and the leg was not the master
+counts-off : (leg master : ℕ) (y was : ReadOut) → y ≡ voided_without leg master was → y.void ≡ false → (y.leg ≢ leg) × (master ≢ leg)
+counts-off leg master y was is counts =
+    (elim ((leg == master) || (was.leg == leg)) as (λ b. ((leg == master) || (was.leg == leg)) ≡ b → y ≡ cond b (voided was) was → (y.leg ≢ leg) × (master ≢ leg)) [
+      | true ↦ λ on e. absurd (let v : y.void ≡ true = ap (λ (z : ReadOut). z.void) e in let clash : true ≡ false = sym v ∙ counts in let f : ⊥ = cc in f)
       | false ↦ λ off e.
-          let parts = or-off (leg == master) (was.leg == leg) off in
-          record {
-            same = e;
-            other = λ own. not-same was.leg leg parts.1 (sym (ap (λ (z : ReadOut). z.leg) e) ∙ own);
-            not_master = λ own. not-same leg master parts.0 (sym own);
-          }
+          let parts = or-off (leg == master) (was.leg == leg) off in (
+            (λ own. not-same was.leg leg parts.1 (sym (ap (λ (z : ReadOut). z.leg) e) ∙ own)),
+            (λ own. not-same leg master parts.0 (sym own)),
+          )
     ]) refl is
 
--- what a read has that is not changed by that
-module _ (leg master : ℕ) where
-  looked-fits : (fits : ℕ → ℕ → Type 0) (was : ReadOut) → fits was.block was.count → fits (voided_without leg master was).block (voided_without leg master was).count
-  looked-fits fits was is = elim ((leg == master) || (was.leg == leg)) as (λ b. fits (cond b (voided was) was).block (cond b (voided was) was).count) [ true ↦ is | false ↦ is ]
+-- a write's call that is out, or asked for, is of another leg
+gone-other : (leg l run : ℕ) (q : WriteOut → Bool) (ws : List WriteOut) → list_any (λ w. is_call_of run l w && q w) (filter (λ w. not (w.leg == leg)) ws) ≡ true → l ≢ leg
+gone-other leg l run q ws any same =
+    let here : list_any (λ (w : WriteOut). (w.leg == leg) && true) (filter (λ w. not (w.leg == leg)) ws) ≡ true =
+    any-then (λ w. is_call_of run l w && q w) (λ w. (w.leg == leg) && true)
+    (λ w is.
+    let own = and_parts (w.run == run) (w.leg == l) (and_parts (is_call_of run l w) (q w) is).0 in
+    ap (λ (n : ℕ). (w.leg == n) && true) (sym same) ∙ ap (λ (b : Bool). b && true) own.1)
+    (filter (λ w. not (w.leg == leg)) ws) any in
+    let clash : true ≡ false = sym here ∙ none-of (λ w. w.leg == leg) (λ w. true) ws in
+    cc
 
-  looked-sums : (of : ReadOut → ℕ) → ((z : ReadOut) → of (voided z) ≡ of z) → (reads : List ReadOut) → sum_by of (map (voided_without leg master) reads) ≡ sum_by of reads
-  looked-sums of same [] = refl
-  looked-sums of same (z ∷ zs) =
-      let own : of (voided_without leg master z) ≡ of z = elim ((leg == master) || (z.leg == leg)) as (λ b. of (cond b (voided z) z) ≡ of z) [ true ↦ same z | false ↦ refl ] in
-      omega (arith, sum_by-cons of z zs, sum_by-cons of (voided_without leg master z) (map (voided_without leg master) zs), own, looked-sums of same zs)
+-- the open chunk's own call
+chunk-stays : (leg : ℕ) (read : Bool) (copy : Option CopyPlace) (chunk : Option Chunk) (call : Option ℕ) → HasChunkCall call chunk
+    → HasChunkCall (cond (is_copied_to leg copy || read) None call) (chunk_but_of leg copy chunk)
+chunk-stays leg true None chunk call has = tt
+chunk-stays leg false None chunk call has = has
+chunk-stays leg read (Some c) chunk call has =
+    elim (c.leg == leg) as (λ m. HasChunkCall (cond (m || read) None call) (cond m None chunk)) [
+      | true ↦ tt
+      | false ↦
+          elim read as (λ b. HasChunkCall (cond b None call) chunk) [ true ↦ tt | false ↦ has ]
+    ]
 
--- a leg goes out as the read of this ticket is answered: what is known of its legs then
-pub record GoesWith {L : Type 0} (type : LegType L) (x : ReadOut) (old new : Calling L) : Type 0 where
-  pub out : find_read x.ticket old.calls.reads ≡ Some x
-  pub counts : x.void ≡ false
-  pub runs : old.stripe.stopped ≡ false
-  pub not_last : is_last x.leg old.stripe ≡ false
-  pub leg : LosesLeg type old.stripe new.stripe.legs x.leg
-  pub stripe : new.stripe ≡ lost x.leg (record old.stripe { legs = new.stripe.legs })
-  pub calls : new.calls ≡ calls_without x.leg old.stripe.master (read_answered x old.calls)
+-- where no copy's call is out none goes
+pub lost-none : {L : Type 0} (leg : ℕ) (s : StripeState L) (calls : CallsOut) → calls.copy ≡ None → calls_without leg s.master calls ≡ calls_lost leg s calls
+lost-none leg s calls none =
+    let off : (b : Bool) → cond b None calls.copy ≡ calls.copy = λ b. elim b as (λ v. cond v None calls.copy ≡ calls.copy) [ true ↦ sym none | false ↦ refl ] in
+    ap (λ (o : Option ℕ). let c : CallsOut = record (calls_without leg s.master calls) { copy = o } in c) (sym (off (is_copied_to leg s.copy || ((leg == s.master) && is_being_read s.chunk))))
 
--- its call failed
-pub goes-with : {L : Type 0} (type : LegType L) (x : ReadOut) (old new : Calling L) (found : List Block) → LosesOut type x old new found → GoesWith type x old new
-goes-with type x old new found f = record {
-  out = f.out;
-  counts = f.counts;
-  runs = f.runs;
-  not_last = f.not_last;
-  leg = read-loses type false old.stripe new.stripe.legs x.leg x.block (block_of []) (failed-read type x.leg x.block x.block (block_of []) found old.stripe.legs new.stripe.legs f.reads);
-  stripe = f.stripe;
-  calls = f.calls;
-}
-
-module _ {L : Type 0} (type : LegType L) (x : ReadOut) (old new : Calling L) (k : Keeps type old.stripe) (has : HasCalls type old) (f : GoesWith type x old new) where
-  abbrev s : StripeState L
-  s = old.stripe
-
-  abbrev legs : List L
-  legs = new.stripe.legs
-
-  abbrev mid : StripeState L
-  mid = record s { legs = legs }
-
-  -- its leg was not out
-  attached : is_out (leg_state x.leg s) ≡ false
-  attached =
-      let fits = has.runs x.ticket x f.out in
-      let on = has.current x.ticket x.block x (record { out = f.out; counts = f.counts; inside = among x x.block (omega arith) (omega (arith, fits.some)) }) in
-      current-attached type s x.leg x.block k.legs k.chunk on
-
-  loses : Loses type s legs x.leg
-  loses = record {
-    keeps = k;
-    runs = f.runs;
-    attached = attached;
-    not_last = f.not_last;
-    loses = f.leg;
-  }
-
-  -- what every stripe keeps it keeps
-  pub loses_out-keeps : Keeps type new.stripe
-  loses_out-keeps = subst (λ (n : StripeState L). Keeps type n) (sym f.stripe) (lost-keeps type s legs x.leg loses)
-
-  pub loses_out-explained : IsTrue type.honest → IsExplainedStep type.model [] s new.stripe
-  loses_out-explained is_honest = subst (λ (n : StripeState L). IsExplainedStep type.model [] s n) (sym f.stripe) (lost-acts type s legs x.leg loses is_honest)
+module _ {L : Type 0} (type : LegType L) (old : Calling L) (legs : List L) (leg : ℕ) (k : Keeps type old.stripe) (has : HasCalls type old) (c : Loses type old.stripe legs leg) where
+  abbrev was : StripeState L
+  was = old.stripe
 
   abbrev after : CallsOut
-  after = calls_without x.leg s.master (read_answered x old.calls)
+  after = calls_lost leg was old.calls
 
-  -- a read that counts afterwards counted before, of another leg, and the master has not gone out
-  still : (t i : ℕ) (y : ReadOut) → IsStanding t y i after → IsStanding t y i old.calls × (y.leg ≢ x.leg) × (s.master ≢ x.leg)
-  still t i y stands =
-      let at = looked x.leg s.master y t (without_read x.ticket old.calls.reads) stands.out in
-      let is = stays x.leg s.master y at.was at.is stands.counts in (
+  module _ (to : StripeState L) (left : LeftBy leg was legs to) (keeps : Keeps type to) (unseen : IsTrue type.honest → was.master ≢ leg → Acts type.model was to []) where
+    abbrev new : Calling L
+    new = record { stripe = to; calls = after }
+
+    off : (t b : ℕ) (y : ReadOut) → IsStanding t y b after → (y.leg ≢ leg) × (was.master ≢ leg)
+    off t b y s =
+        let l = looked (voided_without leg was.master) (voids-without leg was.master) t y old.calls.reads s.out in
+        counts-off leg was.master y l.was l.is s.counts
+
+    still-out : (t l : ℕ) (r : Record) → find_record t to.records ≡ Some r → is_out_on l r.run after ≡ true → StillOut old t l r
+    still-out t l r at out =
+        let q = left-found leg t was.records to.records r left.records at in
+        let ne = gone-other leg l r.run (λ w. not w.waits) old.calls.writes out in
+        let before : is_out_on l r.run old.calls ≡ true = part-has (λ w. is_call_of r.run l w && not w.waits) (λ w. not (w.leg == leg)) old.calls.writes out in
         record {
-          out = find-taken x.ticket t at.was old.calls.reads at.found ∙ ap (λ (z : ReadOut). Some z) (sym is.same);
-          counts = stands.counts;
-          inside = stands.inside;
-        },
-        is.other,
-        is.not_master,
-      )
+          was = q.0;
+          found = q.1;
+          out = subst (λ (n : ℕ). is_out_on l n old.calls ≡ true) q.2.run before;
+          block = q.2.block;
+          going = left-under_way leg q.0 r q.2;
+          owed = λ own. left-owes_other leg q.0 r q.2 l ne ∙ own;
+        }
 
-  was-found : (t : ℕ) (y : ReadOut) → find_read t after.reads ≡ Some y → (was : ReadOut) × (find_read t old.calls.reads ≡ Some was) × (y ≡ voided_without x.leg s.master was)
-  was-found t y out =
-      let at = looked x.leg s.master y t (without_read x.ticket old.calls.reads) out in
-      (at.was, find-taken x.ticket t at.was old.calls.reads at.found, at.is)
+    still-asked : (t l : ℕ) (r : Record) → find_record t to.records ≡ Some r → is_asked_on l r.run after ≡ true → owes l r ≡ true
+    still-asked t l r at asked =
+        let q = left-found leg t was.records to.records r left.records at in
+        let ne = gone-other leg l r.run (λ w. w.waits) old.calls.writes asked in
+        let before : is_asked_on l r.run old.calls ≡ true = part-has (λ w. is_call_of r.run l w && w.waits) (λ w. not (w.leg == leg)) old.calls.writes asked in
+        left-owes_other leg q.0 r q.2 l ne ∙ has.asked t l q.0 q.1 (subst (λ (n : ℕ). is_asked_on l n old.calls ≡ true) q.2.run before)
 
-  module _ (no_writes : old.calls.writes ≡ []) (no_copy : old.calls.copy ≡ None) where
-    none-out : (leg run : ℕ) → is_out_on leg run after ≡ false
-    none-out leg run = ap (λ (ws : List WriteOut). list_any (λ w. is_call_of run leg w && not w.waits) ws) no_writes
-
-    none-asked : (leg run : ℕ) → is_asked_on leg run after ≡ false
-    none-asked leg run = ap (λ (ws : List WriteOut). list_any (λ w. is_call_of run leg w && w.waits) ws) no_writes
-
-    has-after : HasCalls type (record { stripe = lost x.leg mid; calls = after })
-    has-after = record {
-      owed = λ t leg r at is. absurd (let clash : false ≡ true = sym (none-out leg r.run) ∙ is in cc);
-      asked = λ t leg r at is. absurd (let clash : false ≡ true = sym (none-asked leg r.run) ∙ is in cc);
-      runs = λ t y at.
-          let w = was-found t y at in
-          subst (λ (z : ReadOut). FitsRun (lost x.leg mid).place z.block z.count) (sym w.2)
-          (looked-fits x.leg s.master (λ block count. FitsRun (lost x.leg mid).place block count) w.0
-          (subst (λ (p : At). FitsRun p w.0.block w.0.count) (sym (lost-place mid x.leg)) (has.runs t w.0 w.1)));
-      tickets = λ t y at.
-          let w = was-found t y at in
-          has.tickets t w.0 w.1;
-      current = λ t i y stands.
-          let is = still t i y stands in
-          lost-current mid x.leg y.leg i is.1 ∙ has.current t i y is.0;
-      apart = λ t i y r stands busy. none-out y.leg r.run;
-      reads_hold = λ is_honest runs t i y stands.
-          let is = still t i y stands in
-          let array : stripe_array type.model (lost x.leg mid) ≡ stripe_array type.model s = (lost-unseen type s legs x.leg loses is_honest is.2).explained.legal in
-          let same : contents_of type.model legs y.leg ≡ contents_of type.model s.legs y.leg = f.leg.others y.leg is.1 in
-          ap (λ (ls : List L). slice_get (contents_of type.model ls y.leg) i) (lost-legs mid x.leg)
-          ∙ ap (λ (bs : List Block). slice_get bs i) same
-          ∙ has.reads_hold is_honest f.runs t i y is.0
-          ∙ sym (ap (λ (bs : List Block). slice_get bs i) array);
-      chunk = subst (λ (o : Option ℕ). HasChunkCall o (lost x.leg mid).chunk) (sym no_copy) tt;
-      counted = λ leg l at.
-          let of : ReadOut → ℕ = λ z. cond (z.leg == leg) 1 0 in
-          let same = looked-sums x.leg s.master of (λ z. refl) (without_read x.ticket old.calls.reads) in
-          let was = taken-counted x old.calls leg l f.out (λ i w here. has.counted i w here) at in
-          omega (arith, was, same);
+    carries : Carries type old new
+    carries = record {
+      reads = λ t y at. voids-found (voided_without leg was.master) (voids-without leg was.master) t y old.calls.reads at;
+      tickets = omega arith;
+      place = left.place;
+      runs = λ runs. sym left.stopped ∙ runs;
+      records = still-out;
+      asked = still-asked;
+      named = λ l run known. subst (λ (n : ℕ). run < n) (sym left.tickets) (has.named l run (part-has (λ w. is_call_of run l w) (λ w. not (w.leg == leg)) old.calls.writes known));
+      current = λ t b y s on. left.current y.leg b (off t b y s).0 ∙ on;
+      holds = λ is_honest runs t b y s stood holds.
+          let away = off t b y s in
+          let same : slice_get (contents_of type.model to.legs y.leg) b ≡ slice_get (contents_of type.model was.legs y.leg) b =
+          ap (λ (ls : List L). slice_get (contents_of type.model ls y.leg) b) left.legs_are
+          ∙ ap (λ (bs : List Block). slice_get bs b) (c.loses.others y.leg away.0) in
+          acts-hold type.model was to [] y.leg b (unseen is_honest away.1) tt same holds;
+      chunk = subst (λ (o : Option Chunk). HasChunkCall (copy_without leg was old.calls.copy) o) (sym left.chunk)
+          (chunk-stays leg ((leg == was.master) && is_being_read was.chunk) was.copy was.chunk old.calls.copy has.chunk);
+      counted = λ i l at.
+          let from = on-leg_at (closed leg old.calls.syncs) (λ m. refl) leg i old.calls.legs l at in
+          let before : count_out i old.calls ≤ from.was.out = has.counted i from.was from.place in
+          let same = voids-sums (voided_without leg was.master) (voids-without leg was.master) (λ z. cond (z.leg == i) 1 0) (λ z. refl) old.calls.reads in
+          let fewer = part-counts (λ w. (w.leg == i) && not w.waits) (λ w. not (w.leg == leg)) old.calls.writes in
+          omega (arith, before, same, fewer, from.same);
     }
 
-    -- and what holds of the calls that are out
-    pub loses_out-has : HasCalls type new
-    loses_out-has =
-        let one : HasCalls type (record { stripe = new.stripe; calls = after }) = subst (λ (n : StripeState L). HasCalls type (record { stripe = n; calls = after })) (sym f.stripe) has-after in
-        subst (λ (c : CallsOut). HasCalls type (record { stripe = new.stripe; calls = c })) (sym f.calls) one
+    goes-has : HasCalls type new
+    goes-has = carried type old new k keeps.records.in_order.ascending has carries
+
+  -- what holds of the calls that are out holds of those that are left
+  pub lost-has : HasCalls type (record { stripe = lost leg (record was { legs = legs }); calls = after })
+  lost-has =
+      goes-has (lost leg (record was { legs = legs })) (lost-left was legs leg) (lost-keeps type was legs leg c)
+      (λ is_honest ne. lost-unseen type was legs leg c is_honest ne)
+
+  pub lost_all-has : HasCalls type (record { stripe = lost_all leg (record was { legs = legs }); calls = after })
+  lost_all-has =
+      goes-has (lost_all leg (record was { legs = legs })) (lost_all-left was legs leg) (lost_all-keeps type was legs leg c)
+      (λ is_honest ne. lost_all-unseen type was legs leg c is_honest ne)

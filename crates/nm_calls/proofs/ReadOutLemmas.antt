@@ -109,6 +109,7 @@ module _ {L : Type 0} (type : LegType L) (x : ReadOut) (old new : Calling L) (fo
   has-after = record {
     owed = has.owed;
     asked = has.asked;
+    named = has.named;
     runs = λ t y at. has.runs t y (find-taken x.ticket t y old.calls.reads at);
     tickets = λ t y at. has.tickets t y (find-taken x.ticket t y old.calls.reads at);
     current = λ t i y stands. has.current t i y (taken-stands x old.calls t i y stands);

@@ -19,6 +19,7 @@ pub taken-has : {L : Type 0} (type : LegType L) (x : ReadOut) (c : Calling L) �
 taken-has type x c has out = record {
   owed = has.owed;
   asked = has.asked;
+  named = has.named;
   runs = λ t y at. has.runs t y (find-taken x.ticket t y c.calls.reads at);
   tickets = λ t y at. has.tickets t y (find-taken x.ticket t y c.calls.reads at);
   current = λ t i y stands. has.current t i y (taken-stands x c.calls t i y stands);
@@ -38,6 +39,7 @@ pub called-has : {L : Type 0} (type : LegType L) (c : Calling L) (legs : List L)
 called-has type c legs same has = record {
   owed = has.owed;
   asked = has.asked;
+  named = has.named;
   runs = has.runs;
   tickets = has.tickets;
   current = has.current;

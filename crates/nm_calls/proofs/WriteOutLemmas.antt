@@ -1,10 +1,11 @@
 -- A write's call that may be handed out keeps what holds of the calls that are out.
-use Rattle.std.specs.Prelude.{◌≡◌, ◌⊎◌, ℕ, ◌+◌, ◌≤◌, ◌==◌, ◌&&◌, ◌||◌, not, Bool, true, false}
-use Rattle.std.specs.Prelude.{List, [], ◌∷◌, Some, count_by, filter, refl, slice_get}
+use Rattle.std.specs.Prelude.{◌≡◌, ◌⊎◌, ℕ, ◌+◌, ◌<◌, ◌≤◌, ◌==◌, ◌&&◌, ◌||◌, not, Bool, true, false}
+use Rattle.std.specs.Prelude.{List, [], ◌∷◌, ◌++◌, Some, count_by, filter, refl, slice_get, sum_by}
 use Rattle.std.specs.List.{list_any}
-use Rattle.std.proofs.Common.{⊎_elim, ap, sym, subst, arith, cond, inl, inr}
+use Rattle.std.proofs.Common.{⊎_elim, ap, sym, ◌∙◌, subst, arith, cond, inl, inr}
 use Rattle.std.proofs.lemmas.Bool.{and_parts, both_ways, eqb-true}
-use Rattle.std.proofs.lemmas.List.Sums.{sum_by-cons}
+use Rattle.std.proofs.lemmas.List.Folds.{list_any-append}
+use Rattle.std.proofs.lemmas.List.Sums.{sum_by-append, sum_by-cons}
 use Rattle.nm_leg.specs.Leg.{LegType}
 use Rattle.nm_fanout.specs.Record.{owes}
 use Rattle.nm_calls.specs.CallsOut.{Calling, LegCalls, ReadOut, WriteOut, count_out}
@@ -29,7 +30,7 @@ kept-has p q w ws true keeps has =
 kept-has p q w ws false keeps has = behind-has (p w) (list_any p ws) (keeps has)
 
 -- what a part of a list has, the list has
-part-has : (p q : WriteOut → Bool) (ws : List WriteOut) → list_any p (filter q ws) ≡ true
+pub part-has : (p q : WriteOut → Bool) (ws : List WriteOut) → list_any p (filter q ws) ≡ true
     → list_any p ws ≡ true
 part-has p q [] any = any
 part-has p q (w ∷ ws) any = kept-has p q w ws (q w) (part-has p q ws) any
@@ -51,16 +52,31 @@ kept-counts p q w ws false fewer =
     omega (arith, all, fewer)
 
 -- a part of a list has no more of them
-part-counts : (p q : WriteOut → Bool) (ws : List WriteOut)
+pub part-counts : (p q : WriteOut → Bool) (ws : List WriteOut)
     → count_by p (filter q ws) ≤ count_by p ws
 part-counts p q [] = omega arith
 part-counts p q (w ∷ ws) = kept-counts p q w ws (q w) (part-counts p q ws)
+
+swapped : (a b : Bool) → (a || (b || false)) ≡ true → (b || a) ≡ true
+swapped true true is = refl
+swapped true false is = refl
+swapped false true is = refl
+swapped false false is = is
+
+-- what stands last may as well stand first
+pub last-first : (p : WriteOut → Bool) (w : WriteOut) (ws : List WriteOut)
+    → list_any p (ws ++ w ∷ []) ≡ true → (p w || list_any p ws) ≡ true
+last-first p w ws any =
+    swapped (list_any p ws) (p w) (sym (list_any-append p ws (w ∷ [])) ∙ any)
 
 -- what is out once a write's call is handed out is that call, or was out before
 sent-or-old : (run leg r l : ℕ) (ws : List WriteOut)
     → list_any (λ w. is_call_of r l w && not w.waits) (sent run leg ws) ≡ true
     → ((run ≡ r) × (leg ≡ l)) ⊎ (list_any (λ w. is_call_of r l w && not w.waits) ws ≡ true)
-sent-or-old run leg r l ws any = either ((run == r) && (leg == l)) refl any
+sent-or-old run leg r l ws any =
+    either ((run == r) && (leg == l)) refl
+    (last-first (λ w. is_call_of r l w && not w.waits) (record { run = run; leg = leg; waits = false })
+    rest any)
   where
     rest : List WriteOut
     rest = filter (λ w. not (is_call_of run leg w)) ws
@@ -76,11 +92,32 @@ sent-or-old run leg r l ws any = either ((run == r) && (leg == l)) refl any
         inr (part-has (λ w. is_call_of r l w && not w.waits) (λ w. not (is_call_of run leg w))
         ws has)
 
+-- what is known once a write's call is handed out is of that run, or was known before
+sent-known : (run leg r l : ℕ) (ws : List WriteOut)
+    → list_any (λ w. is_call_of r l w) (sent run leg ws) ≡ true
+    → (run ≡ r) ⊎ (list_any (λ w. is_call_of r l w) ws ≡ true)
+sent-known run leg r l ws any =
+    either ((run == r) && (leg == l)) refl
+    (last-first (λ w. is_call_of r l w) (record { run = run; leg = leg; waits = false }) rest any)
+  where
+    rest : List WriteOut
+    rest = filter (λ w. not (is_call_of run leg w)) ws
+
+    either : (b : Bool) → ((run == r) && (leg == l)) ≡ b
+        → (b || list_any (λ w. is_call_of r l w) rest) ≡ true
+        → (run ≡ r) ⊎ (list_any (λ w. is_call_of r l w) ws ≡ true)
+    either true is has = inl (eqb-true run r (and_parts (run == r) (leg == l) is).0)
+    either false is has =
+        inr (part-has (λ w. is_call_of r l w) (λ w. not (is_call_of run leg w)) ws has)
+
 -- what waits once a write's call is handed out waited before
 waits-still : (run leg r l : ℕ) (ws : List WriteOut)
     → list_any (λ w. is_call_of r l w && w.waits) (sent run leg ws) ≡ true
     → list_any (λ w. is_call_of r l w && w.waits) ws ≡ true
-waits-still run leg r l ws any = either ((run == r) && (leg == l)) any
+waits-still run leg r l ws any =
+    either ((run == r) && (leg == l))
+    (last-first (λ w. is_call_of r l w && w.waits) (record { run = run; leg = leg; waits = false })
+    rest any)
   where
     rest : List WriteOut
     rest = filter (λ w. not (is_call_of run leg w)) ws
@@ -96,7 +133,7 @@ waits-still run leg r l ws any = either ((run == r) && (leg == l)) any
     either true has = behind has
     either false has = behind has
 
-never : (b : Bool) → (b ≡ true → ⊥) → b ≡ false
+pub never : (b : Bool) → (b ≡ true → ⊥) → b ≡ false
 never true refutes = absurd (refutes refl)
 never false refutes = refl
 
@@ -131,8 +168,10 @@ one-more run leg c l k from counted = more (leg == l) refl
         ≡ own ((leg == l) && true)
         + count_by (λ (w : WriteOut). (w.leg == l) && not w.waits) rest
     step =
-        sum_by-cons (λ (w : WriteOut). cond ((w.leg == l) && not w.waits) 1 0)
-        (record { run = run; leg = leg; waits = false }) rest
+        let of : WriteOut → ℕ = λ w. cond ((w.leg == l) && not w.waits) 1 0 in
+        let last : WriteOut = record { run = run; leg = leg; waits = false } in
+        let none : sum_by of [] ≡ 0 = refl in
+        omega (arith, sum_by-append of rest (last ∷ []), sum_by-cons of last [], none)
 
     more : (b : Bool) → (leg == l) ≡ b → count_out l (hand_out_write run leg c).calls ≤ k.out
     more true is =
@@ -157,6 +196,11 @@ writes-keep type run leg c has may = record {
       (sent-or-old run leg r.run l c.calls.writes out);
   asked = λ t l r found out.
       has.asked t l r found (waits-still run leg r.run l c.calls.writes out);
+  named = λ l r known.
+      ⊎_elim
+      (λ same. subst (λ (i : ℕ). i < c.stripe.tickets) same may.named)
+      (λ old. has.named l r old)
+      (sent-known run leg r l c.calls.writes known);
   runs = has.runs;
   tickets = has.tickets;
   current = λ t k x s. has.current t k x (stands-still run leg c t k x s);

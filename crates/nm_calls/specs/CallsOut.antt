@@ -2,20 +2,14 @@
 --
 -- A stripe with its calls is one thing, the stripe of which the other definitions speak a part of
 -- it: a hand-out changes the calls alone.
-use Rattle.std.specs.Prelude.{ℕ, ◌+◌, ◌==◌, ◌&&◌, not, Bool, true}
-use Rattle.std.specs.Prelude.{List, [], count_by, filter, find, nat_lt}
+use Rattle.std.specs.Prelude.{ℕ, zero, suc, ◌+◌, ◌==◌, ◌&&◌, not, Bool, true}
+use Rattle.std.specs.Prelude.{List, [], ◌∷◌, count_by, filter, find, nat_lt}
 use Rattle.std.specs.Prelude.{None, Option, if◌then◌else◌}
 use Rattle.std.specs.List.{list_any}
 pub use Rattle.nm_calls.specs.declared.read_out.ReadOut.{ReadOut}
+pub use Rattle.nm_calls.specs.declared.write_out.WriteOut.{WriteOut}
 use Rattle.nm_fanout.specs.Records.{is_among}
 use Rattle.nm_rules.specs.State.{StripeState}
-
--- A write's call of a leg, by the first ticket of the write's run: it is out, or it is asked for
--- and waits for a read.
-pub record WriteOut : Type 0 where
-  pub run : ℕ
-  pub leg : ℕ
-  pub waits : Bool
 
 -- what a sync was asked for: by a step of its own, by a flush, or to call its leg in sync
 pub data SyncFor : Type 0 where
@@ -23,11 +17,13 @@ pub data SyncFor : Type 0 where
   Flushes : SyncFor
   Promotes : SyncFor
 
--- A sync that is out: of which leg, what for, how many writes it covers of those that the leg has
--- answered, and of each region whether something of it was not synced as the sync was handed out.
+-- A sync that is out: of which leg and opening, what for, how many writes it covers of those that
+-- the leg has answered, and of each region whether something of it was not synced as the sync was
+-- handed out.
 pub record SyncOut : Type 0 where
   pub ticket : ℕ
   pub leg : ℕ
+  pub opening : ℕ
   pub asked_for : SyncFor
   pub covers : ℕ
   pub aside : List Bool
@@ -42,7 +38,7 @@ pub record LegCalls : Type 0 where
   pub covered : ℕ
   pub unsynced : List Bool
 
--- What is out, with the ticket of the next read, and that of the open chunk's own call.
+-- What is out, with the ticket of the next read or sync, and that of the open chunk's own call.
 pub record CallsOut : Type 0 where
   pub tickets : ℕ
   pub reads : List ReadOut
@@ -51,12 +47,12 @@ pub record CallsOut : Type 0 where
   pub copy : Option ℕ
   pub legs : List LegCalls
 
--- these reads are out, and no other call
-abbrev pub only_reads : ℕ → List ReadOut → CallsOut
-only_reads tickets reads = record {
+-- these reads and writes are known, and no other call
+abbrev pub reads_and_writes : ℕ → List ReadOut → List WriteOut → CallsOut
+reads_and_writes tickets reads writes = record {
   tickets = tickets;
   reads = reads;
-  writes = [];
+  writes = writes;
   syncs = [];
   copy = None;
   legs = [];
@@ -64,7 +60,13 @@ only_reads tickets reads = record {
 
 -- no call is out, and none was
 abbrev pub no_calls : CallsOut
-no_calls = only_reads 0 []
+no_calls = reads_and_writes 0 [] []
+
+-- what is counted of the legs, with that of this leg changed by f
+abbrev pub on_leg : (LegCalls → LegCalls) → ℕ → List LegCalls → List LegCalls
+on_leg f leg [] = []
+on_leg f zero (l ∷ ls) = f l ∷ ls
+on_leg f (suc leg) (l ∷ ls) = l ∷ on_leg f leg ls
 
 -- a stripe with its calls
 pub record Calling (L : Type 0) : Type 0 where
@@ -91,6 +93,14 @@ is_out_on leg run calls = list_any (λ w. is_call_of run leg w && not w.waits) c
 abbrev pub is_asked_on : (leg run : ℕ) → CallsOut → Bool
 is_asked_on leg run calls = list_any (λ w. is_call_of run leg w && w.waits) calls.writes
 
+-- whether a write's call of this run is known on the leg: it is out, or asked for
+abbrev pub is_known_on : (leg run : ℕ) → CallsOut → Bool
+is_known_on leg run calls = list_any (λ w. is_call_of run leg w) calls.writes
+
+-- the writes' calls without that of this run and leg
+abbrev pub without_write : (run leg : ℕ) → List WriteOut → List WriteOut
+without_write run leg writes = filter (λ w. not (is_call_of run leg w)) writes
+
 -- whether the read has this ticket
 abbrev pub has_ticket : ℕ → ReadOut → Bool
 has_ticket ticket x = x.ticket == ticket
@@ -103,6 +113,11 @@ find_read ticket reads = find (has_ticket ticket) reads
 abbrev pub meets_read : (block count : ℕ) → ReadOut → Bool
 meets_read block count x = nat_lt x.block (block + count) && nat_lt block (x.block + x.count)
 
+-- whether a read of the leg that counts is out on one of so many blocks, from this one on
+abbrev pub is_read_on : (leg block count : ℕ) → CallsOut → Bool
+is_read_on leg block count calls =
+    list_any (λ x. (not x.void && (x.leg == leg)) && meets_read block count x) calls.reads
+
 -- the read, which is void now
 abbrev pub voided : ReadOut → ReadOut
 voided x = record x { void = true }
@@ -111,6 +126,14 @@ voided x = record x { void = true }
 -- whichever leg it is
 abbrev pub voided_at : (block count : ℕ) → ReadOut → ReadOut
 voided_at block count x = if meets_read block count x then voided x else x
+
+-- the sync of this ticket
+abbrev pub find_sync : ℕ → List SyncOut → Option SyncOut
+find_sync ticket syncs = find (λ s. s.ticket == ticket) syncs
+
+-- the syncs without that of this ticket
+abbrev pub without_sync : ℕ → List SyncOut → List SyncOut
+without_sync ticket syncs = filter (λ s. not (s.ticket == ticket)) syncs
 
 -- the reads without that of this ticket
 abbrev pub without_read : ℕ → List ReadOut → List ReadOut

@@ -5,8 +5,10 @@
 //! at once. So what is said of a stripe stays as it is, and a stripe with no call out is one.
 #![tactic(auto)]
 
-pub use calls::{Calls, MOST_READS};
+pub use calls::{Calls, MOST_READS, MOST_WRITES};
 pub use read_out::ReadOut;
+pub use write_out::WriteOut;
 
 mod calls;
 mod read_out;
+mod write_out;

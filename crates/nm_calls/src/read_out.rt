@@ -20,7 +20,7 @@ impl ReadOut {
     ghost use Rattle.nm_calls.specs.CallsOut.{meets_read, voided_at};
 
     /// Whether one of so many blocks, from this one on, is one of the read's.
-    fn meets(&self, block: u64, count: u64) -> bool
+    pub(crate) fn meets(&self, block: u64, count: u64) -> bool
         ensures { result ≡ meets_read block count self.now }
     {
         let begins = self.block < block || self.block - block < count;

@@ -1,7 +1,9 @@
+pub mod AnswerLemmas
 pub mod ApartLemmas
 pub mod BeginLemmas
 pub mod BegunLemmas
 pub mod BoundLemmas
+pub mod CallingLemmas
 pub mod ClaimLemmas
 pub mod CopyLemmas
 pub mod FlushLemmas
@@ -16,3 +18,6 @@ pub mod RunLemmas
 pub mod StepLemmas
 pub mod SyncEndLemmas
 pub mod SyncLemmas
+pub mod WriteAnswerLemmas
+pub mod WriteBeginLemmas
+pub mod WriteEndLemmas

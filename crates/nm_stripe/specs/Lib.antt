@@ -1,6 +1,8 @@
 pub mod Apart
 pub mod Begin
 pub mod Bound
+pub mod Calling
+pub mod CallingWrites
 pub mod Copy
 pub mod End
 pub mod Ends

@@ -8,6 +8,8 @@
 
 pub use answer::{Answer, Handed};
 pub use begin::Beginning;
+pub use calling::{CallingStripe, ReadAnswer, StripeSeal};
+pub use calling_writes::{HandOut, WriteAnswer};
 pub use copy::Copying;
 pub use end::End;
 pub use fail::Failing;
@@ -27,6 +29,8 @@ pub use written::Written;
 mod answer;
 mod attach;
 mod begin;
+mod calling;
+mod calling_writes;
 mod claim;
 mod copy;
 mod end;

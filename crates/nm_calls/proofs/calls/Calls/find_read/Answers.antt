@@ -1,5 +1,5 @@
 -- The first read of the ticket stands at the place that was found.
-use Rattle.std.proofs.Common.{◌≡◌, ◌≢◌, All, List, None, Some, refl, sym, ap, ◌∙◌, subst}
+use Rattle.std.proofs.Common.{◌≡◌, ◌≢◌, All, List, Some, refl, sym, ap, ◌∙◌, subst}
 use Rattle.std.specs.List.{position}
 use Rattle.std.proofs.lemmas.List.Quantifiers.{position-Some}
 use Rattle.nm_calls.specs.CallsOut.{CallsOut, ReadOut, find_read, has_ticket}
