@@ -47,8 +47,8 @@ pub struct StripeSeal {
 /// answer. The legs inside stand in for those.
 #[derive(Drop)]
 pub struct CallingStripe<L: LegPart> {
-    store: Store<L>,
-    calls: Calls,
+    pub(crate) store: Store<L>,
+    pub(crate) calls: Calls,
 }
 
 impl<L: LegPart> Model for CallingStripe<L> {

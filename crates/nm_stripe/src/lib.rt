@@ -29,6 +29,7 @@ mod answer;
 mod attach;
 mod begin;
 mod calling;
+mod calling_queries;
 mod claim;
 mod copy;
 mod end;
