@@ -1,7 +1,7 @@
 -- A read that is handed out: its leg serves each of its blocks, and no write is in its way.
-use Rattle.std.proofs.Common.{◌≡◌, ℕ, ◌+◌, ◌-◌, ◌/◌, ◌%◌, ◌<◌, ◌≤◌, ◌==◌, ◌&&◌, ◌||◌, Bool, true, false, IsTrue, List, [], ◌∷◌, Option, None, Some, cond, refl, sym, ap, ◌∙◌, subst, arith, nat_le, nat_lt}
+use Rattle.std.proofs.Common.{◌≡◌, ℕ, ◌+◌, ◌-◌, ◌/◌, ◌%◌, ◌<◌, ◌≤◌, ◌==◌, ◌&&◌, ◌||◌, Bool, true, false, not, IsTrue, List, [], ◌∷◌, Option, None, Some, cond, eq-eqb, find, refl, sym, ap, ◌∙◌, subst, arith, nat_le, nat_lt}
 use Rattle.std.specs.List.{list_any}
-use Rattle.std.proofs.lemmas.Bool.{eqb-true}
+use Rattle.std.proofs.lemmas.Bool.{and_parts, eqb-true}
 use Rattle.std.proofs.lemmas.Bool.Decides.{nat_tests}
 use Rattle.std.proofs.lemmas.Option.{same_Some}
 use Rattle.nm_fanout.specs.declared.write_record.Record.{Record}
@@ -21,10 +21,11 @@ use Rattle.nm_rules.proofs.ReadLegLemmas.{FromCurrent, FromMaster, ReadFrom, fro
 use Rattle.nm_rules.proofs.RecordLemmas.{both}
 use Rattle.nm_rules.proofs.RunTargetsLemmas.{same-region}
 use Rattle.nm_rules.proofs.StateLemmas.{master_current}
-use Rattle.nm_calls.specs.Asking.{AsksRead, next_read}
-use Rattle.nm_calls.specs.CallsOut.{Calling, ReadOut, is_asked_on, is_out_on, reads_block}
+use Rattle.nm_calls.specs.Asking.{AsksRead, is_busy_by, next_read, written_on}
+use Rattle.nm_calls.specs.CallsOut.{Calling, ReadOut, WriteOut, is_call_of, is_out_on, reads_block}
 use Rattle.nm_calls.specs.HasCalls.{HasCalls, MayRead}
 use Rattle.nm_calls.proofs.ApartLemmas.{reads-keep}
+use Rattle.nm_calls.proofs.WriteOutLemmas.{never}
 
 -- where a copy has passed a place it has passed those before
 passed-before : (leg region early late : ℕ) (copy : Option CopyPlace) → early ≤ late → has_copied leg region late copy ≡ true → has_copied leg region early copy ≡ true
@@ -75,33 +76,53 @@ from-current : {L : Type 0} (type : LegType L) (s : StripeState L) (block leg : 
 from-current type s block leg k (FromCurrent quiet current) = current
 from-current type s block leg k (FromMaster at) = subst (λ (i : ℕ). is_current i block s ≡ true) (sym at) (master_current type.model s k.legs block)
 
-or-first : (a b : Bool) → (a || b) ≡ false → (a ≡ false) × (b ≡ false)
-or-first true b is = cc
-or-first false b is = (refl, is)
-
-not-out : (a b out asked : Bool) → a ≡ true → b ≡ true → (a && (b && (out || asked))) ≡ false → out ≡ false
-not-out true true out asked a b is = (or-first out asked is).0
-not-out true false out asked a b is = cc
-not-out false b out asked a b_is is = cc
-
 module _ {L : Type 0} (c : Calling L) (leg block count : ℕ) where
-  abbrev test : Record → Bool
-  test r = is_among block count r.block && (is_under_way r && (is_out_on leg r.run c.calls || is_asked_on leg r.run c.calls))
+  abbrev test : WriteOut → Bool
+  test w = (w.leg == leg) && is_busy_by w.run block count c.stripe.records
+
+  -- the run that is under way on one of the blocks is so
+  by-block : (b : ℕ) (r : Record) (rs : List Record) → is_among block count b ≡ true → busy_on b rs ≡ Some r → is_busy_by r.run block count rs ≡ true
+  by-block b r [] among busy = absurd (let e : ⊥ = cc in e)
+  by-block b r (q ∷ qs) among busy =
+      let own : Bool = (q.run == r.run) && (is_among block count q.block && is_under_way q) in
+      (elim ((q.block == b) && is_under_way q) as (λ e. ((q.block == b) && is_under_way q) ≡ e → cond e (Some q) (busy_on b qs) ≡ Some r → (own || is_busy_by r.run block count qs) ≡ true) [
+        | true ↦ λ is here.
+            let parts = and_parts (q.block == b) (is_under_way q) is in
+            let run : (q.run == r.run) ≡ true = eq-eqb q.run r.run (ap (λ (x : Record). x.run) (same_Some _ _ here)) in
+            let at : is_among block count q.block ≡ true = ap (λ (n : ℕ). is_among block count n) (eqb-true q.block b parts.0) ∙ among in
+            let on : own ≡ true =
+            ap (λ (v : Bool). v && (is_among block count q.block && is_under_way q)) run
+            ∙ ap (λ (v : Bool). v && is_under_way q) at ∙ parts.1 in
+            ap (λ (v : Bool). v || is_busy_by r.run block count qs) on
+        | false ↦ λ off later. or-later own (is_busy_by r.run block count qs) (by-block b r qs among later)
+      ]) refl busy
+    where
+      or-later : (a b : Bool) → b ≡ true → (a || b) ≡ true
+      or-later true b is = refl
+      or-later false b is = is
+
+  -- where none is found none is out
+  none-out : (run : ℕ) (ws : List WriteOut) → find test ws ≡ None → is_busy_by run block count c.stripe.records ≡ true → list_any (λ w. is_call_of run leg w && not w.waits) ws ≡ false
+  none-out run [] none busy = refl
+  none-out run (w ∷ ws) none busy =
+      let rest : Bool = list_any (λ v. is_call_of run leg v && not v.waits) ws in
+      (elim (test w) as (λ b. test w ≡ b → cond b (Some w) (find test ws) ≡ None → ((is_call_of run leg w && not w.waits) || rest) ≡ false) [
+        | true ↦ λ is here. absurd (let e : ⊥ = cc in e)
+        | false ↦ λ is later.
+            let off : is_call_of run leg w ≡ false =
+            never (is_call_of run leg w)
+            (λ on.
+            let own = and_parts (w.run == run) (w.leg == leg) on in
+            let by : is_busy_by w.run block count c.stripe.records ≡ true = subst (λ (n : ℕ). is_busy_by n block count c.stripe.records ≡ true) (sym (eqb-true w.run run own.0)) busy in
+            let yes : test w ≡ true = ap (λ (v : Bool). v && is_busy_by w.run block count c.stripe.records) own.1 ∙ by in
+            let clash : true ≡ false = sym yes ∙ is in
+            cc) in
+            ap (λ (v : Bool). (v && not w.waits) || rest) off ∙ none-out run ws later busy
+      ]) refl none
 
   -- no write that is under way on one of the blocks is out on the leg
-  busy-free : (b : ℕ) → is_among block count b ≡ true → (r : Record) (rs : List Record) → list_any test rs ≡ false → busy_on b rs ≡ Some r → is_out_on leg r.run c.calls ≡ false
-  busy-free b among r [] none busy = absurd (let e : ⊥ = cc in e)
-  busy-free b among r (q ∷ qs) none busy =
-      let parts = or-first (test q) (list_any test qs) none in
-      (elim (q.block == b) as (λ e. (q.block == b) ≡ e → cond (e && is_under_way q) (Some q) (busy_on b qs) ≡ Some r → is_out_on leg r.run c.calls ≡ false) [
-        | true ↦ λ on.
-            let at : is_among block count q.block ≡ true = ap (λ (n : ℕ). is_among block count n) (eqb-true q.block b on) ∙ among in
-            (elim (is_under_way q) as (λ u. is_under_way q ≡ u → cond u (Some q) (busy_on b qs) ≡ Some r → is_out_on leg r.run c.calls ≡ false) [
-              | true ↦ λ going found. subst (λ (x : Record). is_out_on leg x.run c.calls ≡ false) (same_Some _ _ found) (not-out (is_among block count q.block) (is_under_way q) (is_out_on leg q.run c.calls) (is_asked_on leg q.run c.calls) at going parts.0)
-              | false ↦ λ over found. busy-free b among r qs parts.1 found
-            ]) refl
-        | false ↦ λ off found. busy-free b among r qs parts.1 found
-      ]) refl busy
+  busy-free : (b : ℕ) → is_among block count b ≡ true → (r : Record) → written_on leg block count c ≡ None → busy_on b c.stripe.records ≡ Some r → is_out_on leg r.run c.calls ≡ false
+  busy-free b among r none busy = none-out r.run c.calls.writes none (by-block b r c.stripe.records among busy)
 
 true-is : (b : Bool) → IsTrue b → b ≡ true
 true-is true is = refl
@@ -132,7 +153,7 @@ module _ {L : Type 0} (type : LegType L) (old new : Calling L) (leg block count 
         fits = fits;
         ticket = refl;
         current = λ b inside. from-current type s b leg k (from-each b (true-is (reads_block b x) inside)).2;
-        apart = λ b r inside busy. busy-free old leg block count b (true-is (reads_block b x) inside) r s.records asks.free busy;
+        apart = λ b r inside busy. busy-free old leg block count b (true-is (reads_block b x) inside) r asks.free busy;
         holds = λ is_honest runs b inside.
             let each = from-each b (true-is (reads_block b x) inside) in
             from_holds type s b is_honest k runs calm (omega (arith, each.1, fits.inside)) leg each.2;

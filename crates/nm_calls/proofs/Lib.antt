@@ -9,6 +9,7 @@ pub mod FindingLemmas
 pub mod LostOutLemmas
 pub mod NotedLemmas
 pub mod NumbersLemmas
+pub mod NumbersOverLemmas
 pub mod PushOverLemmas
 pub mod ReachedOutLemmas
 pub mod ReadEndLemmas

@@ -1,10 +1,13 @@
 -- The numbers that are kept for reads that are out are kept as one is answered, and as a leg goes
--- out.
-use Rattle.std.proofs.Common.{◌≡◌, ℕ, ◌+◌, ◌≤◌, ◌==◌, ◌^◌, true, false, List, Some, cond, map, max, refl, sym, subst, arith}
+-- out; so each answer has its numbers.
+use Rattle.std.proofs.Common.{◌≡◌, ℕ, zero, suc, ◌+◌, ◌<◌, ◌≤◌, ◌==◌, ◌^◌, true, false, List, [], ◌∷◌, Some, cond, drop, get_or, length, map, max, nat_lt, refl, sym, ap, ◌∙◌, subst, arith}
+use Rattle.std.proofs.lemmas.Bool.Decides.{nat_tests}
+use Rattle.std.proofs.lemmas.List.Sums.{sum_by-cons}
 use Rattle.nm_fanout.specs.declared.write_record.Record.{Record}
 use Rattle.nm_fanout.specs.Records.{unlanded}
 use Rattle.nm_fanout.specs.Record.{without_leg}
 use Rattle.nm_rules.specs.Lost.{failed_over, lost, settled, without_leg_of}
+use Rattle.nm_rules.specs.Runs.{is_exhausted_by}
 use Rattle.nm_rules.specs.State.{StripeState, next_number}
 use Rattle.nm_rules.proofs.LandingLemmas.{unlanded-all}
 use Rattle.nm_rules.proofs.LeftLemmas.{unlanded-without}
@@ -45,3 +48,31 @@ lost-numbers leg c left =
     subst (λ (n : ℕ). next_number (lost leg c.stripe) + unlanded (lost leg c.stripe).records + blocks_out (map (voided_without leg c.stripe.master) c.calls.reads) ≤ max (2 ^ 63) n)
     (sym (lost-first leg c.stripe))
     (omega (arith, left, same, lost-left leg c.stripe))
+
+-- the blocks of one read more, and of none
+pub out-step : (place : ℕ) (reads : List ReadOut) (d : ReadOut) → place < length reads → blocks_out (drop place reads) ≡ (get_or reads place d).count + blocks_out (drop (place + 1) reads)
+out-step place [] d inside = absurd (let e : ⊥ = omega (arith, inside) in e)
+out-step zero (x ∷ xs) d inside = sum_by-cons (λ (z : ReadOut). z.count) x xs
+out-step (suc place) (x ∷ xs) d inside =
+    let next : suc (place + 1) ≡ suc place + 1 = omega arith in
+    out-step place xs d (omega (arith, inside))
+    ∙ ap (λ (n : ℕ). (get_or xs place d).count + blocks_out (drop n (x ∷ xs))) next
+
+pub out-none : (place : ℕ) (reads : List ReadOut) → length reads ≤ place → blocks_out (drop place reads) ≡ 0
+out-none zero [] past = refl
+out-none (suc place) [] past = refl
+out-none zero (x ∷ xs) past = absurd (let e : ⊥ = omega (arith, past) in e)
+out-none (suc place) (x ∷ xs) past = out-none place xs (omega (arith, past))
+
+-- a read that is out has its numbers at its answer
+pub has-numbers : {L : Type 0} (x : ReadOut) (c : Calling L) → find_read x.ticket c.calls.reads ≡ Some x → 0 < x.count → HasNumbersLeft c → is_exhausted_by x.count c.stripe ≡ false
+has-numbers x c out some left =
+    let fewer = taken-out x c.calls.reads out in
+    not-above (next_number c.stripe + unlanded c.stripe.records + x.count) (2 ^ 63)
+    (low (c.stripe.first) (next_number c.stripe + unlanded c.stripe.records + x.count) (omega (arith, some)) (omega (arith, left, fewer)))
+  where
+    low : (first sum : ℕ) → first < sum → sum ≤ max (2 ^ 63) first → sum ≤ 2 ^ 63
+    low first sum above most = omega (arith, above, most)
+
+    not-above : (n most : ℕ) → n ≤ most → nat_lt most n ≡ false
+    not-above n most low = grind (arith, nat_tests)

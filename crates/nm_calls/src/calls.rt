@@ -1,12 +1,13 @@
-ghost use Rattle.std.specs.Prelude.{◌≡◌, ◌≢◌, ◌⊎◌, ◌↔◌, ◌+◌, ◌<◌, ◌≤◌, ◌^◌, ◌++◌, ◌∷◌, []};
-ghost use Rattle.std.specs.Prelude.{length, map, position, vec_capacity};
-ghost use Rattle.std.specs.Prelude.{All, IfNone, IfOk, IfSome, IsTrue};
+ghost use Rattle.std.specs.Prelude.{◌≡◌, ◌≢◌, ◌⊎◌, ◌↔◌, ℕ, ◌+◌, ◌<◌, ◌≤◌, ◌^◌, ◌++◌, ◌∷◌, []};
+ghost use Rattle.std.specs.Prelude.{length, map, position, slice_get, vec_capacity};
+ghost use Rattle.std.specs.Prelude.{All, IfNone, IfOk, IfSome, IsTrue, Some};
 ghost use Rattle.nm_calls.specs.Answers.{calls_without, read_answered, voided_without};
-ghost use Rattle.nm_calls.specs.Answers.{write_returned};
+ghost use Rattle.nm_calls.specs.Answers.{reads_over, write_returned, written_in};
 ghost use Rattle.nm_calls.specs.Asking.{next_read};
 ghost use Rattle.nm_calls.specs.CallsOut.{find_read, has_ticket, is_out_on, is_read_on, no_calls};
-ghost use Rattle.nm_calls.specs.CallsOut.{voided_at, without_write};
+ghost use Rattle.nm_calls.specs.CallsOut.{on_leg, voided_at, without_write};
 ghost use Rattle.nm_calls.specs.HasCalls.{with_asked, with_read, with_write};
+ghost use Rattle.nm_calls.specs.Numbers.{blocks_out};
 
 use crate::read_out::ReadOut;
 use crate::write_out::WriteOut;
@@ -154,6 +155,40 @@ impl Calls {
         self.reads.iter().any(|read| !read.void && read.leg == leg && read.meets(block, count))
     }
 
+    /// How many calls of writes are out, or asked for.
+    pub fn writes(&self) -> usize
+        ensures { result ≡ length self.now.writes }
+    {
+        self.writes.len()
+    }
+
+    /// The one at this place.
+    pub fn write_at(&self, place: usize) -> WriteOut
+        requires { place < length self.now.writes }
+        ensures { slice_get self.now.writes place ≡ Some result }
+    {
+        self.writes[place]
+    }
+
+    /// Whether no more write's call may be handed out or asked for.
+    pub fn is_full_of_writes(&self) -> bool
+        ensures full { IsTrue result ↔ (2048 ≤ length self.now.writes) }
+    {
+        self.writes.len() >= MOST_WRITES
+    }
+
+    /// How many blocks the reads that are out have.
+    pub fn blocks_out(&self) -> u64
+        requires { blocks_out self.now.reads < 2 ^ 64 }
+        ensures { result ≡ blocks_out self.now.reads }
+    {
+        let mut blocks = 0;
+        for place in 0..self.reads.len() {
+            blocks += u64::from(self.reads[place].count);
+        }
+        blocks
+    }
+
     /// The call of this run's write is handed out to the leg.
     pub fn hand_out_write(&mut self, run: u64, leg: u8)
         requires few { length self.old.writes < 2048 }
@@ -185,6 +220,19 @@ impl Calls {
         ensures { self.new ≡ write_returned run leg self.old }
     {
         self.writes.retain(|write| !write.is_call_of(run, leg));
+    }
+
+    /// A run of so many blocks, from this one on, has reached the leg. Where it lands, each read
+    /// there is void. No leg's regions are counted here.
+    pub fn reach(&mut self, leg: u8, block: u64, count: u64, lands: bool)
+        ensures { (region : ℕ) → self.new ≡ record self.old {
+          reads = reads_over lands block count self.old.reads;
+          legs = on_leg (written_in region) leg self.old.legs;
+        } }
+    {
+        if lands {
+            void_each_at(&mut self.reads, block, count);
+        }
     }
 
     /// Entries land on so many blocks, from this one on: each read there is void.

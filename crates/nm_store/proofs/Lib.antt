@@ -1,3 +1,4 @@
+pub mod AskingLemmas
 pub mod BeginningLemmas
 pub mod ClaimLemmas
 pub mod ComparingLemmas

@@ -28,7 +28,7 @@ module _ {L : Type 0} (old : StripeState L) (rs : List Record) (is : old.records
       ∙ (run-there ticket place rs x h at there).members
 
   -- it takes effect as its first block does
-  as-first : run_lands leg run old ≡ ((leg == old.master) && is_none x.entry)
+  pub as-first : run_lands leg run old ≡ ((leg == old.master) && is_none x.entry)
   as-first =
       let b = (run-there ticket place rs x h at there).block in
       ap (λ (os : List Record). run_lands leg os old) (members ∙ b.all)

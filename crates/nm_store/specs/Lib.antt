@@ -1,3 +1,4 @@
+pub mod Asking
 pub mod BlockCalls
 pub mod Comparing
 pub mod CopyPlace

@@ -11,9 +11,10 @@
 #![tactic(auto)]
 
 pub use read_choice::ReadChoice;
-pub use standing::{Claimed, Standing};
+pub use standing::{Claimed, Reaching, Standing};
 pub use store::Store;
 
+mod asking;
 mod beginning;
 mod causes;
 mod comparing;

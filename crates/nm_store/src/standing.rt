@@ -19,3 +19,14 @@ pub struct Standing {
     /// The number of its first entry, once it has taken effect.
     pub entry: Option<u64>,
 }
+
+/// What a leg is asked to write of a run that it is owed.
+#[derive(Clone, Copy, PartialEq, Eq)]
+pub struct Reaching {
+    /// The run's first block.
+    pub block: u64,
+    /// How many blocks it has.
+    pub count: u64,
+    /// Whether it takes effect once it has reached the leg.
+    pub lands: bool,
+}

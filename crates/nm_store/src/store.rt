@@ -16,7 +16,7 @@ use std::alloc::Global;
 use std::marker::Model;
 
 /// No entry has this number or one above it.
-const NUMBERS: u64 = 1 << 63;
+pub(crate) const NUMBERS: u64 = 1 << 63;
 
 /// What a stripe has in memory: its legs, what they are behind in, the records of writes, the open
 /// copy and the kept history.

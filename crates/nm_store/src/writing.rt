@@ -25,7 +25,7 @@ use nm_leg::{LegFault, LegPart, write_leg_at};
 use nm_regions::Regions;
 
 /// Whether the run takes effect as it reaches this leg: the leg is the master, and it has not yet.
-fn lands_at(run: &Record, leg: u8, master: u8) -> bool
+pub(crate) fn lands_at(run: &Record, leg: u8, master: u8) -> bool
     ensures { result ≡ ((leg == master) && is_none run.now.entry) }
 {
     leg == master && run.entry.is_none()

@@ -10,7 +10,7 @@ use Rattle.nm_calls.specs.declared.read_out.ReadOut.{ReadOut}
 use Rattle.nm_calls.specs.CallsOut.{Calling, CallsOut, find_read}
 use Rattle.nm_calls.specs.Numbers.{HasNumbersLeft}
 use Rattle.nm_calls.proofs.LostOutLemmas.{lost-none}
-use Rattle.nm_calls.proofs.NumbersLemmas.{lost-numbers, taken-numbers, taken-out}
+use Rattle.nm_calls.proofs.NumbersLemmas.{has-numbers, lost-numbers, taken-numbers, taken-out}
 use Rattle.nm_calls.proofs.ReadEndLemmas.{among}
 use Rattle.nm_calls.proofs.ReadLostLemmas.{GoesWith, goes-with, loses_out-explained, loses_out-has, loses_out-keeps}
 use Rattle.nm_calls.proofs.ReadOutLemmas.{EndsWith, ends-with, ends_out-explained, ends_out-has, ends_out-keeps}
@@ -24,7 +24,7 @@ use Rattle.nm_rules.specs.Lost.{failed_over, lost, settled, without_leg_of}
 use Rattle.nm_rules.specs.Read.{turn_after}
 use Rattle.nm_rules.specs.RunCalls.{ReadsRunAt}
 use Rattle.nm_rules.specs.RunRead.{after_read_run, last_block, marks_of_reads}
-use Rattle.nm_rules.specs.Runs.{EntryNames, FitsRun}
+use Rattle.nm_rules.specs.Runs.{EntryNames, FitsRun, is_exhausted_by}
 use Rattle.nm_rules.specs.declared.refusal.Refusal.TheVariants.{Fault}
 use Rattle.nm_rules.specs.State.{StripeState, is_last}
 use Rattle.nm_rules.proofs.ActsLemmas.{explained-stays}
@@ -43,7 +43,7 @@ use Rattle.nm_stripe.proofs.LostLemmas.{lost-legs}
 use Rattle.nm_stripe.proofs.CallingLemmas.{any_legs}
 
 -- a leg that goes out does so on any legs
-on-lost : {L : Type 0} (legs : List Leg) (leg : ℕ) (s : StripeState L) → stripe_on legs (lost leg s) ≡ lost leg (stripe_on legs s)
+pub on-lost : {L : Type 0} (legs : List Leg) (leg : ℕ) (s : StripeState L) → stripe_on legs (lost leg s) ≡ lost leg (stripe_on legs s)
 on-lost legs leg s =
     let out = without_leg_of leg s in
     let there = without_leg_of leg (stripe_on legs s) in
@@ -92,7 +92,7 @@ pub as-many : (bytes : List ℕ) (count : ℕ) → length bytes ≡ 512 * count 
 as-many bytes count room = let e : blocks_in bytes ≡ count = omega (arith, room) in length-blocks bytes ∙ e
 
 -- what an answer keeps of a stripe of whose legs nothing is known
-module _ {L : Type 0} (model : L → Leg) (old new : Calling L) (x : ReadOut) (bytes : List ℕ) (k : KeepsCalls (any_legs model) old) (out : find_read x.ticket old.calls.reads ≡ Some x) (no_copy : old.calls.copy ≡ None) where
+module _ {L : Type 0} (model : L → Leg) (old new : Calling L) (x : ReadOut) (bytes : List ℕ) (k : KeepsCalls (any_legs model) old) (out : find_read x.ticket old.calls.reads ≡ Some x) (no_copy : old.calls.copy ≡ None) (left : HasNumbersLeft old) where
   abbrev type : LegType L
   type = any_legs model
 
@@ -101,18 +101,18 @@ module _ {L : Type 0} (model : L → Leg) (old new : Calling L) (x : ReadOut) (b
 
   ends-any : (done : Bool) (result : Result (ReadAnswer L) Refusal) → Counts x bytes old.stripe → EndsOut done x bytes old new result → KeepsCalls type new
   ends-any done (Ok (Value names)) counts ends =
-      let legs : new.stripe.legs ≡ old.stripe.legs = ap (λ (c : Calling L). c.stripe.legs) ends.3 in
+      let legs : new.stripe.legs ≡ old.stripe.legs = ap (λ (c : Calling L). c.stripe.legs) ends.2 in
       let stripe : new.stripe ≡ after_read_run old.stripe new.stripe.legs x.block (blocks_of bytes) (turn_after (last_block x.block x.count) old.stripe) =
-      ap (λ (c : Calling L). c.stripe) ends.3 ∙ ap (λ (ls : List L). after_read_run old.stripe ls x.block (blocks_of bytes) (turn_after (last_block x.block x.count) old.stripe)) (sym legs) in
+      ap (λ (c : Calling L). c.stripe) ends.2 ∙ ap (λ (ls : List L). after_read_run old.stripe ls x.block (blocks_of bytes) (turn_after (last_block x.block x.count) old.stripe)) (sym legs) in
       let f : EndsWith type x old new (blocks_of bytes) = record {
         out = out;
         runs = counts.runs;
-        room = ends.1;
+        room = has-numbers x old out (let fits = k.calls.runs x.ticket x out in fits.some) left;
         long = as-many bytes x.count counts.room;
         same = subst (λ (ls : List L). SameContents type old.stripe ls) (sym legs) (record { count = refl; lengths = λ j. refl; contents = λ is_honest j. refl });
         held = λ is_honest. absurd (let e : ⊥ = cc in e);
         stripe = stripe;
-        calls = ap (λ (c : Calling L). c.calls) ends.3;
+        calls = ap (λ (c : Calling L). c.calls) ends.2;
       } in
       record { stripe = ends_out-keeps type x old new (blocks_of bytes) k.stripe k.calls f; calls = ends_out-has type x old new (blocks_of bytes) k.stripe k.calls f }
   ends-any done (Ok (LegLost gone)) counts ends =
@@ -130,7 +130,7 @@ module _ {L : Type 0} (model : L → Leg) (old new : Calling L) (x : ReadOut) (b
       } in
       record { stripe = loses_out-keeps type x old new k.stripe k.calls f; calls = loses_out-has type x old new k.stripe k.calls f }
   ends-any done (Ok Again) counts ends = absurd ends
-  ends-any done (Err refusal) counts ends = subst (λ (c : Calling L). KeepsCalls type c) (sym ends.1) taken-any
+  ends-any done (Err refusal) counts ends = subst (λ (c : Calling L). KeepsCalls type c) (sym ends.3) taken-any
 
 -- what an answer keeps, and how it is explained, on honest legs as they were answered
 pub record AnswerIs {L : Type 0} (old new : Calling L) (legs after : List Leg) (read : Option ReadOut) (bytes : List ℕ) (result : Result (ReadAnswer L) Refusal) : Type 0 where
@@ -166,21 +166,21 @@ module _ {L : Type 0} (old new : Calling L) (legs after : List Leg) (k : KeepsCa
           subst (λ (c : Calling Leg). IsExplainedStep (λ (leg : Leg). leg) [] from.stripe c.stripe) (sym is) stays,
         )
 
-    module _ (no_copy : old.calls.copy ≡ None) (counts : Counts x bytes old.stripe) where
+    module _ (no_copy : old.calls.copy ≡ None) (left : HasNumbersLeft old) (counts : Counts x bytes old.stripe) where
       ends : (done : Bool) (result : Result (ReadAnswer L) Refusal) → EndsOut done x bytes old new result → ReadsRunAt answered done x.leg x.block (blocks_of bytes) legs after → AnswerIs old new legs after (Some x) bytes result
       ends done (Ok (Value names)) is reads =
           let f : FindsOut answered x from to (blocks_of bytes) = record {
             out = out;
             counts = counts.counts;
             runs = counts.runs;
-            room = is.1;
+            room = has-numbers x old out (let fits = k.calls.runs x.ticket x out in fits.some) left;
             long = as-many bytes x.count counts.room;
             reads = subst (λ (b : Bool). ReadsRunAt answered b x.leg x.block (blocks_of bytes) legs after) is.0 reads;
-            stripe = ap (λ (c : Calling L). (calling_on after c).stripe) is.3;
-            calls = ap (λ (c : Calling L). c.calls) is.3;
+            stripe = ap (λ (c : Calling L). (calling_on after c).stripe) is.2;
+            calls = ap (λ (c : Calling L). c.calls) is.2;
           } in
           let e : EndsWith answered x from to (blocks_of bytes) = ends-with answered x from to (blocks_of bytes) k.calls f in
-          let number : names.number ≡ from.stripe.first + from.stripe.total = ap (λ (n : EntryNames). n.number) is.2 in
+          let number : names.number ≡ from.stripe.first + from.stripe.total = ap (λ (n : EntryNames). n.number) is.1 in
           record {
             keeps = record { stripe = ends_out-keeps answered x from to (blocks_of bytes) k.stripe k.calls e; calls = ends_out-has answered x from to (blocks_of bytes) k.stripe k.calls e };
             acts = (
@@ -210,8 +210,8 @@ module _ {L : Type 0} (old new : Calling L) (legs after : List Leg) (k : KeepsCa
             out = out;
             long = as-many bytes x.count counts.room;
             reads = reads;
-            stripe = ap (λ (c : Calling L). stripe_on after c.stripe) is.1;
-            calls = ap (λ (c : Calling L). c.calls) is.1;
+            stripe = ap (λ (c : Calling L). stripe_on after c.stripe) is.3;
+            calls = ap (λ (c : Calling L). c.calls) is.3;
           } in
           record {
             keeps = record { stripe = fails_out-keeps answered x from to done (blocks_of bytes) k.stripe k.calls f; calls = fails_out-has answered x from to done (blocks_of bytes) k.stripe k.calls f };
@@ -219,7 +219,7 @@ module _ {L : Type 0} (old new : Calling L) (legs after : List Leg) (k : KeepsCa
           }
 
 -- an answer, whatever is out under its ticket
-module _ {L : Type 0} (old new : Calling L) (of : CallOf) (bytes : List ℕ) (done : Bool) (result : Result (ReadAnswer L) Refusal) (no_copy : old.calls.copy ≡ None) (answers : AnswersRead done (read_of of old.calls) bytes old new result) where
+module _ {L : Type 0} (old new : Calling L) (of : CallOf) (bytes : List ℕ) (done : Bool) (result : Result (ReadAnswer L) Refusal) (no_copy : old.calls.copy ≡ None) (left : HasNumbersLeft old) (answers : AnswersRead done (read_of of old.calls) bytes old new result) where
   abbrev Taken : ReadOut → Type 0
   Taken x = (result ≡ Ok Again) × (new ≡ record old { calls = read_answered x old.calls })
 
@@ -228,10 +228,10 @@ module _ {L : Type 0} (old new : Calling L) (of : CallOf) (bytes : List ℕ) (do
   rest-of x ends = by-result result ends
     where
       by-result : (r : Result (ReadAnswer L) Refusal) → EndsOut done x bytes old new r → new.calls.copy ≡ old.calls.copy
-      by-result (Ok (Value names)) is = ap (λ (c : Calling L). c.calls.copy) is.3
+      by-result (Ok (Value names)) is = ap (λ (c : Calling L). c.calls.copy) is.2
       by-result (Ok (LegLost gone)) is = ap (λ (c : Calling L). c.calls.copy) is.3
       by-result (Ok Again) is = absurd is
-      by-result (Err refusal) is = ap (λ (c : Calling L). c.calls.copy) is.1
+      by-result (Err refusal) is = ap (λ (c : Calling L). c.calls.copy) is.3
 
   rest : new.calls.copy ≡ old.calls.copy
   rest =
@@ -245,29 +245,29 @@ module _ {L : Type 0} (old new : Calling L) (of : CallOf) (bytes : List ℕ) (do
       ]) answers
 
   -- and numbers are left for the other reads
-  numbers-of : (x : ReadOut) → find_read x.ticket old.calls.reads ≡ Some x → length bytes ≡ 512 * x.count → HasNumbersLeft old → EndsOut done x bytes old new result → HasNumbersLeft new
-  numbers-of x out room left ends = by-result result ends
+  numbers-of : (x : ReadOut) → find_read x.ticket old.calls.reads ≡ Some x → length bytes ≡ 512 * x.count → EndsOut done x bytes old new result → HasNumbersLeft new
+  numbers-of x out room ends = by-result result ends
     where
       by-result : (r : Result (ReadAnswer L) Refusal) → EndsOut done x bytes old new r → HasNumbersLeft new
       by-result (Ok (Value names)) is =
           let long = as-many bytes x.count room in
           let fewer = taken-out x old.calls.reads out in
-          subst (λ (c : Calling L). HasNumbersLeft c) (sym is.3) (omega (arith, left, long, fewer))
+          subst (λ (c : Calling L). HasNumbersLeft c) (sym is.2) (omega (arith, left, long, fewer))
       by-result (Ok (LegLost gone)) is =
           subst (λ (c : Calling L). HasNumbersLeft c) (sym is.3)
           (lost-numbers x.leg (record old { calls = read_answered x old.calls }) (taken-numbers x old out left))
       by-result (Ok Again) is = absurd is
-      by-result (Err refusal) is = subst (λ (c : Calling L). HasNumbersLeft c) (sym is.1) (taken-numbers x old out left)
+      by-result (Err refusal) is = subst (λ (c : Calling L). HasNumbersLeft c) (sym is.3) (taken-numbers x old out left)
 
-  numbers : HasNumbersLeft old → HasNumbersLeft new
-  numbers left =
+  numbers : HasNumbersLeft new
+  numbers =
       (elim (read_of of old.calls) as (λ o. read_of of old.calls ≡ o → AnswersRead done o bytes old new result → HasNumbersLeft new) [
         | None ↦ λ is same. subst (λ (c : Calling L). HasNumbersLeft c) (sym same.1) left
         | Some x ↦ λ is said.
             let out = found-out of old.calls x is in
             (elim (counts_not x bytes old.stripe) as (λ b. counts_not x bytes old.stripe ≡ b → MatchBool b (Taken x) (EndsOut done x bytes old new result) → HasNumbersLeft new) [
               | true ↦ λ off taken. subst (λ (c : Calling L). HasNumbersLeft c) (sym taken.1) (taken-numbers x old out left)
-              | false ↦ λ on ends. numbers-of x out (counts-is x bytes old.stripe on).room left ends
+              | false ↦ λ on ends. numbers-of x out (counts-is x bytes old.stripe on).room ends
             ]) refl said
       ]) refl answers
 
@@ -278,13 +278,13 @@ module _ {L : Type 0} (old new : Calling L) (of : CallOf) (bytes : List ℕ) (do
         | Some x ↦ λ is said.
             let out = found-out of old.calls x is in
             (elim (counts_not x bytes old.stripe) as (λ b. counts_not x bytes old.stripe ≡ b → MatchBool b (Taken x) (EndsOut done x bytes old new result) → KeepsCalls (any_legs model) new) [
-              | true ↦ λ off taken. subst (λ (c : Calling L). KeepsCalls (any_legs model) c) (sym taken.1) (taken-any model old new x bytes k out no_copy)
-              | false ↦ λ on ends. ends-any model old new x bytes k out no_copy done result (counts-is x bytes old.stripe on) ends
+              | true ↦ λ off taken. subst (λ (c : Calling L). KeepsCalls (any_legs model) c) (sym taken.1) (taken-any model old new x bytes k out no_copy left)
+              | false ↦ λ on ends. ends-any model old new x bytes k out no_copy left done result (counts-is x bytes old.stripe on) ends
             ]) refl said
       ]) refl answers
 
   pub answer-inside : (model : L → Leg) → KeepsInside model old → KeepsInside model new
-  answer-inside model k = record { keeps = answer-any model k.keeps; no_copy = rest ∙ k.no_copy; numbers = numbers k.numbers }
+  answer-inside model k = record { keeps = answer-any model k.keeps; no_copy = rest ∙ k.no_copy; numbers = numbers }
 
   pub answer-is : (legs after : List Leg) → KeepsCalls answered (calling_on legs old) → CallsRead done (read_of of old.calls) bytes old legs after → AnswerIs old new legs after (read_of of old.calls) bytes result
   answer-is legs after k calls =
@@ -307,21 +307,20 @@ module _ {L : Type 0} (old new : Calling L) (of : CallOf) (bytes : List ℕ) (do
                   let counts : Counts x bytes old.stripe = record { counts = both.0; runs = both.1; room = went.0 } in
                   let whole : (length bytes == 512 * x.count) ≡ true = eq-eqb (length bytes) (512 * x.count) went.0 in
                   let is_end : EndsOut done x bytes old new result = subst (λ (b : Bool). MatchBool (not b) (Taken x) (EndsOut done x bytes old new result)) whole ending in
-                  ends old new legs after k x bytes out no_copy counts done result is_end went.1
+                  ends old new legs after k x bytes out no_copy left counts done result is_end went.1
             ]) refl said called
       ]) refl answers calls
 
 -- how the end of a read that counts follows from what was done to the stripe
 module _ {L : Type 0} (old new : StripeState L) (x : ReadOut) (found : List Block) (long : length found ≡ x.count) where
-  pub value-out : (done full : Bool) (names : EntryNames) → EndsRead done x.leg x.block found old new (Ok (Found names)) → (done && full) ≡ false
-      → (done ≡ true) × (full ≡ false) × (names ≡ names_of old x.block x.count) × (new ≡ after_read_run old old.legs x.block found (turn_after (last_block x.block x.count) old))
-  value-out true full names is off = (
+  pub value-out : (done : Bool) (names : EntryNames) → EndsRead done x.leg x.block found old new (Ok (Found names))
+      → (done ≡ true) × (names ≡ names_of old x.block x.count) × (new ≡ after_read_run old old.legs x.block found (turn_after (last_block x.block x.count) old))
+  value-out true names is = (
     refl,
-    off,
     is.0 ∙ ap (λ (n : ℕ). names_of old x.block n) long,
     is.1 ∙ ap (λ (n : ℕ). after_read_run old old.legs x.block found (turn_after (last_block x.block n) old)) long,
   )
-  value-out false full names is off = absurd is
+  value-out false names is = absurd is
 
   pub lost-out : (done : Bool) (gone : ℕ) → EndsRead done x.leg x.block found old new (Ok (FoundLost gone)) → (done ≡ false) × (gone ≡ x.leg) × (is_last x.leg old ≡ false) × (new ≡ lost x.leg old)
   lost-out true gone is = absurd is
@@ -355,9 +354,10 @@ pub record MayEnd {L : Type 0} (x : ReadOut) (bytes : List ℕ) (s : StripeState
   pub leg : x.leg < length s.legs
   pub run : FitsRun s.place x.block x.count
   pub whole : length bytes ≡ 512 * x.count
+  pub left : is_exhausted_by x.count s ≡ false
 
-pub may-end : {L : Type 0} (model : L → Leg) (c : Calling L) (of : CallOf) (x : ReadOut) (bytes : List ℕ) → KeepsCalls (any_legs model) c → read_of of c.calls ≡ Some x → counts_not x bytes c.stripe ≡ false → MayEnd x bytes c.stripe
-may-end model c of x bytes k is on =
+pub may-end : {L : Type 0} (model : L → Leg) (c : Calling L) (of : CallOf) (x : ReadOut) (bytes : List ℕ) → KeepsCalls (any_legs model) c → HasNumbersLeft c → read_of of c.calls ≡ Some x → counts_not x bytes c.stripe ≡ false → MayEnd x bytes c.stripe
+may-end model c of x bytes k left is on =
     let type = any_legs model in
     let out = found-out of c.calls x is in
     let counts = counts-is x bytes c.stripe on in
@@ -367,6 +367,7 @@ may-end model c of x bytes k is on =
       leg = attached_inside model c.stripe k.stripe.legs x.leg (current-attached type c.stripe x.leg x.block k.stripe.legs k.stripe.chunk current);
       run = fits;
       whole = counts.room;
+      left = has-numbers x c out fits.some left;
     }
 
 -- a stripe and its calls, each of which is known

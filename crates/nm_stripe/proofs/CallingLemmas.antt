@@ -1,29 +1,31 @@
 -- A stripe whose calls may be out: a read's hand-out keeps what holds of it and of its calls, on all
 -- legs as they were answered.
-use Rattle.std.proofs.Common.{◌≡◌, ℕ, ◌&&◌, ◌||◌, Bool, true, false, not, List, [], ◌∷◌, refl, sym, ap, ◌∙◌, subst, arith, ◌+◌, ◌≤◌, ◌^◌, max, sum_by}
-use Rattle.std.specs.List.{list_any}
-use Rattle.nm_calls.specs.Asking.{AsksRead, is_written_on, next_read}
-use Rattle.nm_calls.specs.Numbers.{HasNumbersLeft, blocks_out}
-use Rattle.nm_calls.specs.declared.read_out.ReadOut.{ReadOut}
-use Rattle.nm_fanout.specs.Records.{unlanded}
-use Rattle.nm_rules.specs.State.{next_number}
-use Rattle.std.proofs.lemmas.List.Sums.{sum_by-append, sum_by-cons}
-use Rattle.nm_calls.specs.AsAnswered.{KeepsCalls, answered, calling_on}
-use Rattle.nm_calls.specs.declared.write_out.WriteOut.{WriteOut}
-use Rattle.nm_calls.specs.CallsOut.{Calling, CallsOut, is_asked_on, is_call_of, is_out_on, no_calls}
-use Rattle.nm_calls.specs.HasCalls.{HasCalls}
-use Rattle.nm_calls.proofs.AskLemmas.{asks-has, asks-stripe}
+use Rattle.std.proofs.Common.{◌≡◌, ℕ, zero, suc, ◌+◌, ◌≤◌, ◌==◌, ◌&&◌, ◌^◌, Bool, true, false, cond, drop, find, length, List, [], ◌∷◌, max, None, Option, Some, option_map, slice_get, sum_by, refl, sym, ap, ◌∙◌, subst, arith}
+use Rattle.std.proofs.lemmas.Option.{same_Some}
 use Rattle.nm_fanout.specs.declared.write_record.Record.{Record}
-use Rattle.nm_fanout.specs.Record.{is_under_way}
-use Rattle.nm_fanout.specs.Records.{is_among}
+use Rattle.std.proofs.lemmas.List.Sums.{sum_by-append, sum_by-cons}
+use Rattle.nm_calls.specs.Asking.{AsksRead, ask_read_cause, ask_read_rows, busy_leg, is_busy_by, next_read, written_on}
+use Rattle.nm_calls.specs.AsAnswered.{KeepsCalls, answered, calling_on}
+use Rattle.nm_calls.specs.declared.read_out.ReadOut.{ReadOut}
+use Rattle.nm_calls.specs.declared.write_out.WriteOut.{WriteOut}
+use Rattle.nm_calls.specs.CallsOut.{Calling, CallsOut, no_calls}
+use Rattle.nm_calls.specs.HasCalls.{HasCalls}
+use Rattle.nm_calls.specs.Numbers.{HasNumbersLeft, blocks_out}
+use Rattle.nm_calls.proofs.AskLemmas.{asks-has, asks-stripe}
+use Rattle.nm_fanout.specs.Records.{unlanded}
 use Rattle.nm_leg.specs.declared.asks.Asks.TheVariants.{Read as ToRead}
 use Rattle.nm_leg.specs.declared.leg_call.LegCall.{LegCall}
 use Rattle.nm_leg.specs.declared.call_tag.CallTag.{CallTag}
 use Rattle.nm_leg.specs.declared.call_tag.CallOf.TheVariants.{Read}
 use Rattle.nm_leg.specs.Leg.{Leg, LegType, leg_type}
+use Rattle.nm_rules.specs.declared.refusal.Refusal.TheVariants.{Busy, Exhausted}
 use Rattle.nm_rules.specs.Invariant.{Keeps}
-use Rattle.nm_rules.specs.Runs.{FitsRun}
-use Rattle.nm_rules.specs.State.{StripeState}
+use Rattle.nm_rules.specs.Read.{read_leg}
+use Rattle.nm_rules.specs.RunRead.{last_block, read_run_cause}
+use Rattle.nm_rules.specs.Runs.{FitsRun, is_exhausted_by}
+use Rattle.nm_rules.specs.State.{StripeState, next_number}
+use Rattle.nm_rules.proofs.CauseLemmas.{none_holds, when_off}
+use Rattle.nm_rules.proofs.RunBeginLemmas.{at_most}
 use Rattle.nm_stripe.specs.Calling.{HandsOutRead, KeepsInside}
 
 -- legs of which nothing is known
@@ -97,23 +99,23 @@ asks-reads model old new leg block count k fits asks left = record {
       subst (λ (c : Calling _). HasNumbersLeft c) (sym asks.after) (omega (arith, left, none, more, last));
 }
 
--- where no write is out none is in a read's way
-and-off : (a b o w : Bool) → o ≡ false → w ≡ false → (a && (b && (o || w))) ≡ false
-and-off false b o w no_o no_w = refl
-and-off true false o w no_o no_w = refl
-and-off true true false w no_o no_w = no_w
-and-off true true true w no_o no_w = absurd (let e : ⊥ = cc in e)
+-- a read that may be handed out to the leg, and has its numbers then
+pub record MayAsk {L : Type 0} (c : Calling L) (leg block count : ℕ) : Type 0 where
+  pub no_cause : read_run_cause c.stripe count ≡ None
+  pub free : written_on leg block count c ≡ None
+  pub left : next_number c.stripe + unlanded c.stripe.records + blocks_out c.calls.reads + count ≤ max (2 ^ 63) c.stripe.first
 
-any-off : (p : Record → Bool) (rs : List Record) → ((r : Record) → p r ≡ false) → list_any p rs ≡ false
-any-off p [] off = refl
-any-off p (r ∷ rs) off = ap (λ (b : Bool). b || list_any p rs) (off r) ∙ any-off p rs off
+none-mapped : (o : Option WriteOut) → option_map (λ w. Busy w.run) o ≡ None → o ≡ None
+none-mapped None is = refl
+none-mapped (Some w) is = absurd (let e : ⊥ = cc in e)
 
-pub none-written : {L : Type 0} (c : Calling L) (leg block count : ℕ) → c.calls.writes ≡ [] → is_written_on leg block count c ≡ false
-none-written c leg block count none =
-    any-off (λ r. is_among block count r.block && (is_under_way r && (is_out_on leg r.run c.calls || is_asked_on leg r.run c.calls))) c.stripe.records
-    (λ r. and-off (is_among block count r.block) (is_under_way r) (is_out_on leg r.run c.calls) (is_asked_on leg r.run c.calls)
-    (ap (λ (ws : List WriteOut). list_any (λ w. is_call_of r.run leg w && not w.waits) ws) none)
-    (ap (λ (ws : List WriteOut). list_any (λ w. is_call_of r.run leg w && w.waits) ws) none))
+pub may-ask : {L : Type 0} (c : Calling L) (leg block count : ℕ) → ask_read_cause c block count ≡ None → read_leg (last_block block count) c.stripe ≡ Some leg → MayAsk c leg block count
+may-ask c leg block count none is =
+    let rows = none_holds (ask_read_rows c block count) none in
+    let off = when_off (is_exhausted_by (blocks_out c.calls.reads + count) c.stripe) Exhausted rows.1.0 in
+    let most = at_most (2 ^ 63) (next_number c.stripe + unlanded c.stripe.records + (blocks_out c.calls.reads + count)) off in
+    let free : busy_leg block count c (Some leg) ≡ None = ap (λ (o : Option ℕ). busy_leg block count c o) (sym is) ∙ rows.1.1.0 in
+    record { no_cause = rows.0; free = none-mapped (written_on leg block count c) free; left = omega (arith, most) }
 
 -- the call that is handed out for a read
 pub hands-out : {L S : Type 0} (old new : Calling L) (call : LegCall S) (leg block count ticket : ℕ) → AsksRead old new leg block count → call.tag ≡ record { of = Read ticket; leg = leg; opening = 0 } → ticket ≡ old.calls.tickets
@@ -124,3 +126,35 @@ hands-out old new call leg block count ticket asks tag is from blocks = record {
   from = from;
   for_blocks = blocks;
 }
+
+-- a call of the leg whose run is under way on one of the blocks
+abbrev pub is_there_by : (leg block count : ℕ) → List Record → WriteOut → Bool
+is_there_by leg block count records w = (w.leg == leg) && is_busy_by w.run block count records
+
+-- what is found among those from a place on, where the one there is such a one, and where it is not
+module _ {X : Type 0} (p : X → Bool) where
+  find-at : (xs : List X) (i : ℕ) (x : X) → slice_get xs i ≡ Some x → find p (drop i xs) ≡ cond (p x) (Some x) (find p (drop (i + 1) xs))
+  find-at [] i x at = absurd (let e : ⊥ = cc in e)
+  find-at (y ∷ ys) zero x at = ap (λ (z : X). cond (p z) (Some z) (find p ys)) (same_Some y x at)
+  find-at (y ∷ ys) (suc i) x at =
+      let next : suc (i + 1) ≡ suc i + 1 = omega arith in
+      find-at ys i x at ∙ ap (λ (n : ℕ). cond (p x) (Some x) (find p (drop n (y ∷ ys)))) next
+
+  pub find-hit : (xs : List X) (i : ℕ) (x : X) → slice_get xs i ≡ Some x → p x ≡ true → find p (drop i xs) ≡ Some x
+  find-hit xs i x at is = find-at xs i x at ∙ ap (λ (b : Bool). cond b (Some x) (find p (drop (i + 1) xs))) is
+
+  pub find-miss : (xs : List X) (i : ℕ) (x : X) → slice_get xs i ≡ Some x → p x ≡ false → find p (drop i xs) ≡ find p (drop (i + 1) xs)
+  find-miss xs i x at is = find-at xs i x at ∙ ap (λ (b : Bool). cond b (Some x) (find p (drop (i + 1) xs))) is
+
+  pub find-none : (xs : List X) (i : ℕ) → length xs ≤ i → find p (drop i xs) ≡ None
+  find-none [] zero past = refl
+  find-none [] (suc i) past = refl
+  find-none (x ∷ xs) zero past = absurd (let e : ⊥ = omega (arith, past) in e)
+  find-none (x ∷ xs) (suc i) past = find-none xs i (omega (arith, past))
+
+-- the numbers that are left for reads that are out
+pub left-below : {L : Type 0} (c : Calling L) → HasNumbersLeft c → next_number c.stripe + unlanded c.stripe.records ≤ max (2 ^ 63) c.stripe.first
+left-below c left = omega (arith, left)
+
+pub left-out : {L : Type 0} (c : Calling L) → HasNumbersLeft c → blocks_out c.calls.reads ≤ 2 ^ 63
+left-out c left = omega (arith, left)

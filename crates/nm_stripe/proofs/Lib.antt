@@ -23,3 +23,6 @@ pub mod RunLemmas
 pub mod StepLemmas
 pub mod SyncEndLemmas
 pub mod SyncLemmas
+pub mod WriteAnswerLemmas
+pub mod WriteBeginLemmas
+pub mod WriteEndLemmas

@@ -1,5 +1,5 @@
 -- A stripe whose calls may be out: the call of a read, and what its answer changes.
-use Rattle.std.specs.Prelude.{◌≡◌, ◌⊎◌, ℕ, ◌*◌, ◌==◌, ◌||◌, Bool, true, false, not, List, []}
+use Rattle.std.specs.Prelude.{◌≡◌, ℕ, ◌*◌, ◌==◌, ◌||◌, Bool, true, false, not, List, []}
 use Rattle.std.specs.Prelude.{length}
 use Rattle.std.specs.Prelude.{None, Option, Some, Result, Ok, Err, MatchBool}
 use Rattle.nm_leg.specs.declared.call_tag.CallOf.{CallOf}
@@ -14,13 +14,12 @@ use Rattle.nm_calls.specs.declared.read_out.ReadOut.{ReadOut}
 use Rattle.nm_calls.specs.CallsOut.{CallsOut, Calling, find_read}
 use Rattle.nm_calls.specs.Numbers.{HasNumbersLeft}
 use Rattle.nm_rules.specs.declared.refusal.Refusal.{Refusal}
-use Rattle.nm_rules.specs.declared.refusal.Refusal.TheVariants.{Exhausted, Fault}
+use Rattle.nm_rules.specs.declared.refusal.Refusal.TheVariants.{Fault}
 use Rattle.nm_rules.specs.Acts.{IsExplainedStep}
 use Rattle.nm_rules.specs.Array.{stripe_array}
 use Rattle.nm_rules.specs.Lost.{lost}
 use Rattle.nm_rules.specs.Read.{turn_after}
 use Rattle.nm_rules.specs.RunRead.{after_read_run, last_block, marks_of_reads}
-use Rattle.nm_rules.specs.Runs.{is_exhausted_by}
 use Rattle.nm_rules.specs.State.{StripeState, is_last}
 use Rattle.nm_stripe.specs.declared.calling.ReadAnswer.{ReadAnswer}
 use Rattle.nm_stripe.specs.declared.calling.ReadAnswer.TheVariants.{Value, Again, LegLost}
@@ -56,8 +55,7 @@ counts_not x bytes stripe = (x.void || stripe.stopped) || not (length bytes == 5
 abbrev pub EndsOut : {L : Type 0} → (done : Bool) → ReadOut → List ℕ → (old new : Calling L)
     → Result (ReadAnswer L) Refusal → Type 0
 EndsOut done x bytes old new (Ok (Value names)) =
-    (done ≡ true) × (is_exhausted_by x.count old.stripe ≡ false)
-    × (names ≡ names_of old.stripe x.block x.count)
+    (done ≡ true) × (names ≡ names_of old.stripe x.block x.count)
     × (new ≡ record {
       stripe = after_read_run old.stripe old.stripe.legs x.block (blocks_of bytes)
           (turn_after (last_block x.block x.count) old.stripe);
@@ -71,8 +69,7 @@ EndsOut done x bytes old new (Ok (LegLost gone)) =
     })
 EndsOut done x bytes old new (Ok Again) = ⊥
 EndsOut done x bytes old new (Err refusal) =
-    (((done ≡ false) × (is_last x.leg old.stripe ≡ true) × (refusal ≡ Fault))
-    ⊎ ((done ≡ true) × (is_exhausted_by x.count old.stripe ≡ true) × (refusal ≡ Exhausted)))
+    (done ≡ false) × (is_last x.leg old.stripe ≡ true) × (refusal ≡ Fault)
     × (new ≡ record old { calls = read_answered x old.calls })
 
 -- the answer of a call: of one that is not out nothing changes, and of a read that does not count

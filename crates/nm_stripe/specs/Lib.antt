@@ -3,6 +3,7 @@ pub mod Begin
 pub mod Bound
 pub mod Calling
 pub mod CallingSteps
+pub mod CallingWrites
 pub mod Copy
 pub mod End
 pub mod Ends

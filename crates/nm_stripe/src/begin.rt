@@ -14,7 +14,7 @@ use nm_replay::{BLOCK_BYTES, Block};
 use nm_rules::Refusal;
 
 /// What whole blocks are laid over: nothing of it is read.
-static NO_BASE: Block = Block([0; BLOCK_BYTES]);
+pub(crate) static NO_BASE: Block = Block([0; BLOCK_BYTES]);
 
 /// What a begin answers.
 #[derive(Drop)]

@@ -9,6 +9,7 @@
 pub use answer::{Answer, Handed};
 pub use begin::Beginning;
 pub use calling::{CallingStripe, ReadAnswer, StripeSeal};
+pub use calling_writes::{HandOut, WriteAnswer};
 pub use copy::Copying;
 pub use end::End;
 pub use fail::Failing;
@@ -35,6 +36,7 @@ mod calling_look;
 mod calling_queries;
 mod calling_replace;
 mod calling_sync;
+mod calling_writes;
 mod claim;
 mod copy;
 mod end;

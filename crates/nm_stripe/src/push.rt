@@ -48,7 +48,7 @@ fn reach_of<L: LegPart>(store: &Store<L>, ticket: u64, near: usize) -> Reach
 
 /// Takes the answer of a write's leg call.
 #[inline(always)]
-fn answer_write<L: LegPart>(
+pub(crate) fn answer_write<L: LegPart>(
     store: &mut Store<L>,
     ticket: u64,
     near: usize,
