@@ -3,7 +3,12 @@ pub mod ApartLemmas
 pub mod BeginLemmas
 pub mod BegunLemmas
 pub mod BoundLemmas
+pub mod CallingFailLemmas
+pub mod CallingJoinLemmas
 pub mod CallingLemmas
+pub mod CallingLookLemmas
+pub mod CallingStepLemmas
+pub mod CallingSyncLemmas
 pub mod ClaimLemmas
 pub mod CopyLemmas
 pub mod FlushLemmas

@@ -30,7 +30,7 @@ holds-as at (b ∷ bs) xs ys alike holds = (alike at (omega arith) (omega arith)
 
 module _ {L : Type 0} (type : LegType L) (succeeded : Bool) (leg block : ℕ) (bs : List Block) (old new : StripeState L) (reads : ReadsRunAt type succeeded leg block bs old.legs new.legs) where
   -- no contents change
-  look-same : SameContents type old new.legs
+  pub look-same : SameContents type old new.legs
   look-same = record {
     count = calls-length type.model old.legs new.legs leg reads.before reads.after reads.change;
     lengths = λ j. calls-lengths type.model succeeded old.legs new.legs leg j reads.before reads.after reads.change reads.reads.calls;

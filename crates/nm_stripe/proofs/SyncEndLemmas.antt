@@ -36,7 +36,7 @@ module _ {L : Type 0} (type : LegType L) (old mid new : StripeState L) (leg : �
         keeps = sync-fault_keeps type old new leg mid.legs k called last after;
         ok = tt;
         acts = λ is_honest. sync-fault_explained type old new leg mid.legs k called last after is_honest;
-        refused = ForFault ends.0 (sync-fails type old new leg mid.legs k called last after);
+        refused = ForFault ends.0 (sync-fails type old new leg mid.legs called last after);
       }
 
   pub sync-ends : (done : Bool) (result : Result Syncing Refusal) → CallsToSync type done old mid.legs leg → EndsSync done leg mid (lost_all leg mid) new result → SyncIs type (Syncs type old new leg) old new leg result
@@ -44,7 +44,7 @@ module _ {L : Type 0} (type : LegType L) (old mid new : StripeState L) (leg : �
       let after : new ≡ record old { legs = mid.legs } = ends ∙ others in
       record {
         keeps = synced-keeps type old new leg mid.legs k called after;
-        ok = synchronizes type old new leg mid.legs k called after;
+        ok = synchronizes type old new leg mid.legs called after;
         acts = λ is_honest. synced-explained type old new leg mid.legs k called after is_honest;
         refused = tt;
       }
@@ -53,7 +53,7 @@ module _ {L : Type 0} (type : LegType L) (old mid new : StripeState L) (leg : �
       let after : new ≡ lost_all leg (record old { legs = mid.legs }) = lost_all-from leg old mid new others ends.2 in
       record {
         keeps = sync-lost_keeps type old new leg mid.legs k called not_last after;
-        ok = (ends.0, sync-loses type old new leg mid.legs k called not_last after);
+        ok = (ends.0, sync-loses type old new leg mid.legs called not_last after);
         acts = λ is_honest. sync-lost_explained type old new leg mid.legs k called not_last after is_honest;
         refused = tt;
       }
@@ -67,7 +67,7 @@ module _ {L : Type 0} (type : LegType L) (old mid new : StripeState L) (leg : �
       let after : new ≡ record old { legs = mid.legs } = ends ∙ others in
       record {
         keeps = synced-keeps type old new leg mid.legs k called after;
-        ok = synchronizes type old new leg mid.legs k called after;
+        ok = synchronizes type old new leg mid.legs called after;
         acts = λ is_honest. synced-explained type old new leg mid.legs k called after is_honest;
         refused = tt;
       }
@@ -76,7 +76,7 @@ module _ {L : Type 0} (type : LegType L) (old mid new : StripeState L) (leg : �
       let after : new ≡ lost leg (record old { legs = mid.legs }) = lost-from leg old mid new others ends.2 in
       record {
         keeps = flush-lost_keeps type old new leg mid.legs k called not_last after;
-        ok = (ends.0, flush-loses type old new leg mid.legs k called not_last after);
+        ok = (ends.0, flush-loses type old new leg mid.legs called not_last after);
         acts = λ is_honest. flush-lost_explained type old new leg mid.legs k called not_last after is_honest;
         refused = tt;
       }
@@ -97,14 +97,14 @@ module _ {L : Type 0} (type : LegType L) (old mid new : StripeState L) (leg : �
       let after : new ≡ record old { legs = mid.legs; states = slice_set old.states leg IsInSync } = promoted-after leg old mid new others ends in
       record {
         keeps = promoted-keeps type old new leg mid.legs k called inside after;
-        ok = promotes type old new leg mid.legs k called inside after;
+        ok = promotes type old new leg mid.legs called after;
         acts = λ is_honest. promoted-explained type old new leg mid.legs k called inside after is_honest;
       }
   promote-ends false (JoiningLost gone) called ends =
       let after : new ≡ lost_all leg (record old { legs = mid.legs }) = lost_all-from leg old mid new others ends.1 in
       record {
         keeps = promote-lost_keeps type old new leg mid.legs k called after;
-        ok = (ends.0, promote-loses type old new leg mid.legs k called after);
+        ok = (ends.0, promote-loses type old new leg mid.legs called after);
         acts = λ is_honest. promote-lost_explained type old new leg mid.legs k called after is_honest;
       }
   promote-ends true (JoiningLost gone) called ends = absurd ends

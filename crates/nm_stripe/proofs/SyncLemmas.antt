@@ -16,117 +16,121 @@ use Rattle.nm_rules.proofs.LostStepLemmas.{flush_lost-keeps, flush_lost-acts, sy
 use Rattle.nm_rules.proofs.PromoteLemmas.{may_promote, promote-keeps, promote-acts}
 use Rattle.nm_stripe.proofs.LostLemmas.{lost-after, lost-legs_after, lost_all-after, lost_all-legs_after}
 
-module _ {L : Type 0} (type : LegType L) (old new : StripeState L) (leg : ℕ) (legs : List L) (k : Keeps type old) where
-  -- a sync that went well
-  module _ (called : CallsToSync type true old legs leg) (after : new ≡ record old { legs = legs }) where
-    same : new.legs ≡ legs
-    same = ap (λ (s : StripeState L). s.legs) after
+module _ {L : Type 0} (type : LegType L) (old new : StripeState L) (leg : ℕ) (legs : List L) where
+  -- what a sync that went well is
+  pub synchronizes : CallsToSync type true old legs leg → new ≡ record old { legs = legs } → Synchronizes type old new leg
+  synchronizes called after =
+      let same : new.legs ≡ legs = ap (λ (s : StripeState L). s.legs) after in
+      record {
+        called = subst (λ (ls : List L). CallsToSync type true old ls leg) (sym same) called;
+        after = after ∙ ap (λ (ls : List L). let s : StripeState L = record old { legs = ls } in s) (sym same);
+      }
 
-    pub synchronizes : Synchronizes type old new leg
-    synchronizes = record {
-      called = subst (λ (ls : List L). CallsToSync type true old ls leg) (sym same) called;
-      after = after ∙ ap (λ (ls : List L). let s : StripeState L = record old { legs = ls } in s) (sym same);
-    }
-
-    pub synced-keeps : Keeps type new
-    synced-keeps = subst (λ (s : StripeState L). Keeps type s) (sym after) (called-keeps type old legs (sync-same type old legs true leg called.syncs) k)
-
-    pub synced-explained : IsTrue type.honest → IsExplainedStep type.model [] old new
-    synced-explained is_honest =
-        subst (λ (s : StripeState L). IsExplainedStep type.model [] old s) (sym after)
-        (record { events = []; marked = refl; acts = called-acts type old legs (sync-same type old legs true leg called.syncs) is_honest k })
-
-  -- a sync whose leg failed
+  -- what a sync or a flush is whose leg failed
   module _ (called : CallsToSync type false old legs leg) where
-    module _ (not_last : is_last leg old ≡ false) (after : new ≡ lost_all leg (record old { legs = legs })) where
-      pub sync-loses : LosesInSync type old new leg
-      sync-loses = record {
-        called = subst (λ (ls : List L). CallsToSync type false old ls leg) (sym (lost_all-legs_after leg old new legs after)) called;
-        not_last = not_last;
-        after = lost_all-after leg old new legs after;
-      }
-
-      pub sync-lost_keeps : Keeps type new
-      sync-lost_keeps = sync_lost-keeps type old new k leg sync-loses
-
-      pub sync-lost_explained : IsTrue type.honest → IsExplainedStep type.model [] old new
-      sync-lost_explained is_honest = sync_lost-acts type old new k leg sync-loses is_honest
-
-    -- in a flush
-    module _ (not_last : is_last leg old ≡ false) (after : new ≡ lost leg (record old { legs = legs })) where
-      pub flush-loses : LosesInFlush type old new leg
-      flush-loses = record {
-        called = subst (λ (ls : List L). CallsToSync type false old ls leg) (sym (lost-legs_after leg old new legs after)) called;
-        not_last = not_last;
-        after = lost-after leg old new legs after;
-      }
-
-      pub flush-lost_keeps : Keeps type new
-      flush-lost_keeps = flush_lost-keeps type old new k leg flush-loses
-
-      pub flush-lost_explained : IsTrue type.honest → IsExplainedStep type.model [] old new
-      flush-lost_explained is_honest = flush_lost-acts type old new k leg flush-loses is_honest
-
-    module _ (last : is_last leg old ≡ true) (after : new ≡ record old { legs = legs }) where
-      pub sync-fails : FailsInSync type old new leg
-      sync-fails =
-          let same : new.legs ≡ legs = ap (λ (s : StripeState L). s.legs) after in
-          record {
-            called = subst (λ (ls : List L). CallsToSync type false old ls leg) (sym same) called;
-            last = last;
-            after = after ∙ ap (λ (ls : List L). let s : StripeState L = record old { legs = ls } in s) (sym same);
-          }
-
-      pub sync-fault_keeps : Keeps type new
-      sync-fault_keeps = sync_fault-keeps type old new k leg sync-fails
-
-      pub sync-fault_explained : IsTrue type.honest → IsExplainedStep type.model [] old new
-      sync-fault_explained is_honest = record { events = []; marked = refl; acts = sync_fault-acts type old new k leg sync-fails is_honest }
-
-  -- a promotion whose sync went well
-  module _ (called : CallsToPromote type true old legs leg) (inside : leg < length old.legs) (after : new ≡ record old { legs = legs; states = slice_set old.states leg InSync }) where
-    abbrev mid : StripeState L
-    mid = record old { legs = legs }
-
-    synced : Keeps type mid
-    synced = called-keeps type old legs (sync-same type old legs true leg called.syncs) k
-
-    still : leg < length legs
-    still = let s = called.syncs in omega (arith, inside, calls-length type.model old.legs legs leg s.before s.after s.change)
-
-    pub promotes : Promotes type old new leg
-    promotes =
-        let same_legs : new.legs ≡ legs = ap (λ (s : StripeState L). s.legs) after in
-        record {
-          called = subst (λ (ls : List L). CallsToPromote type true old ls leg) (sym same_legs) called;
-          after = after ∙ ap (λ (ls : List L). let s : StripeState L = record old { legs = ls; states = slice_set old.states leg InSync } in s) (sym same_legs);
-        }
-
-    pub promoted-keeps : Keeps type new
-    promoted-keeps = subst (λ (s : StripeState L). Keeps type s) (sym after) (promote-keeps type mid leg still synced (may_promote mid leg called.no_cause))
-
-    pub promoted-explained : IsTrue type.honest → IsExplainedStep type.model [] old new
-    promoted-explained is_honest =
-        subst (λ (s : StripeState L). IsExplainedStep type.model [] old s) (sym after)
-        (record {
-          events = [];
-          marked = refl;
-          acts = acts-append type.model old mid (record mid { states = slice_set old.states leg InSync }) [] [] (called-acts type old legs (sync-same type old legs true leg called.syncs) is_honest k) (promote-acts type mid leg still synced (may_promote mid leg called.no_cause));
-        })
-
-  -- and one whose sync failed
-  module _ (called : CallsToPromote type false old legs leg) (after : new ≡ lost_all leg (record old { legs = legs })) where
-    pub promote-loses : LosesInPromote type old new leg
-    promote-loses = record {
-      called = subst (λ (ls : List L). CallsToPromote type false old ls leg) (sym (lost_all-legs_after leg old new legs after)) called;
+    pub sync-loses : is_last leg old ≡ false → new ≡ lost_all leg (record old { legs = legs }) → LosesInSync type old new leg
+    sync-loses not_last after = record {
+      called = subst (λ (ls : List L). CallsToSync type false old ls leg) (sym (lost_all-legs_after leg old new legs after)) called;
+      not_last = not_last;
       after = lost_all-after leg old new legs after;
     }
 
-    pub promote-lost_keeps : Keeps type new
-    promote-lost_keeps = promote_lost-keeps type old new k leg promote-loses
+    pub flush-loses : is_last leg old ≡ false → new ≡ lost leg (record old { legs = legs }) → LosesInFlush type old new leg
+    flush-loses not_last after = record {
+      called = subst (λ (ls : List L). CallsToSync type false old ls leg) (sym (lost-legs_after leg old new legs after)) called;
+      not_last = not_last;
+      after = lost-after leg old new legs after;
+    }
 
-    pub promote-lost_explained : IsTrue type.honest → IsExplainedStep type.model [] old new
-    promote-lost_explained is_honest = promote_lost-acts type old new k leg promote-loses is_honest
+    pub sync-fails : is_last leg old ≡ true → new ≡ record old { legs = legs } → FailsInSync type old new leg
+    sync-fails last after =
+        let same : new.legs ≡ legs = ap (λ (s : StripeState L). s.legs) after in
+        record {
+          called = subst (λ (ls : List L). CallsToSync type false old ls leg) (sym same) called;
+          last = last;
+          after = after ∙ ap (λ (ls : List L). let s : StripeState L = record old { legs = ls } in s) (sym same);
+        }
+
+  -- what a promotion is
+  pub promotes : CallsToPromote type true old legs leg → new ≡ record old { legs = legs; states = slice_set old.states leg InSync } → Promotes type old new leg
+  promotes called after =
+      let same : new.legs ≡ legs = ap (λ (s : StripeState L). s.legs) after in
+      record {
+        called = subst (λ (ls : List L). CallsToPromote type true old ls leg) (sym same) called;
+        after = after ∙ ap (λ (ls : List L). let s : StripeState L = record old { legs = ls; states = slice_set old.states leg InSync } in s) (sym same);
+      }
+
+  pub promote-loses : CallsToPromote type false old legs leg → new ≡ lost_all leg (record old { legs = legs }) → LosesInPromote type old new leg
+  promote-loses called after = record {
+    called = subst (λ (ls : List L). CallsToPromote type false old ls leg) (sym (lost_all-legs_after leg old new legs after)) called;
+    after = lost_all-after leg old new legs after;
+  }
+
+  module _ (k : Keeps type old) where
+    -- a sync that went well
+    module _ (called : CallsToSync type true old legs leg) (after : new ≡ record old { legs = legs }) where
+      pub synced-keeps : Keeps type new
+      synced-keeps = subst (λ (s : StripeState L). Keeps type s) (sym after) (called-keeps type old legs (sync-same type old legs true leg called.syncs) k)
+
+      pub synced-explained : IsTrue type.honest → IsExplainedStep type.model [] old new
+      synced-explained is_honest =
+          subst (λ (s : StripeState L). IsExplainedStep type.model [] old s) (sym after)
+          (record { events = []; marked = refl; acts = called-acts type old legs (sync-same type old legs true leg called.syncs) is_honest k })
+
+    -- a sync whose leg failed
+    module _ (called : CallsToSync type false old legs leg) where
+      module _ (not_last : is_last leg old ≡ false) (after : new ≡ lost_all leg (record old { legs = legs })) where
+        pub sync-lost_keeps : Keeps type new
+        sync-lost_keeps = sync_lost-keeps type old new k leg (sync-loses called not_last after)
+
+        pub sync-lost_explained : IsTrue type.honest → IsExplainedStep type.model [] old new
+        sync-lost_explained is_honest = sync_lost-acts type old new k leg (sync-loses called not_last after) is_honest
+
+      -- in a flush
+      module _ (not_last : is_last leg old ≡ false) (after : new ≡ lost leg (record old { legs = legs })) where
+        pub flush-lost_keeps : Keeps type new
+        flush-lost_keeps = flush_lost-keeps type old new k leg (flush-loses called not_last after)
+
+        pub flush-lost_explained : IsTrue type.honest → IsExplainedStep type.model [] old new
+        flush-lost_explained is_honest = flush_lost-acts type old new k leg (flush-loses called not_last after) is_honest
+
+      module _ (last : is_last leg old ≡ true) (after : new ≡ record old { legs = legs }) where
+        pub sync-fault_keeps : Keeps type new
+        sync-fault_keeps = sync_fault-keeps type old new k leg (sync-fails called last after)
+
+        pub sync-fault_explained : IsTrue type.honest → IsExplainedStep type.model [] old new
+        sync-fault_explained is_honest = record { events = []; marked = refl; acts = sync_fault-acts type old new k leg (sync-fails called last after) is_honest }
+
+    -- a promotion whose sync went well
+    module _ (called : CallsToPromote type true old legs leg) (inside : leg < length old.legs) (after : new ≡ record old { legs = legs; states = slice_set old.states leg InSync }) where
+      abbrev mid : StripeState L
+      mid = record old { legs = legs }
+
+      synced : Keeps type mid
+      synced = called-keeps type old legs (sync-same type old legs true leg called.syncs) k
+
+      still : leg < length legs
+      still = let s = called.syncs in omega (arith, inside, calls-length type.model old.legs legs leg s.before s.after s.change)
+
+      pub promoted-keeps : Keeps type new
+      promoted-keeps = subst (λ (s : StripeState L). Keeps type s) (sym after) (promote-keeps type mid leg still synced (may_promote mid leg called.no_cause))
+
+      pub promoted-explained : IsTrue type.honest → IsExplainedStep type.model [] old new
+      promoted-explained is_honest =
+          subst (λ (s : StripeState L). IsExplainedStep type.model [] old s) (sym after)
+          (record {
+            events = [];
+            marked = refl;
+            acts = acts-append type.model old mid (record mid { states = slice_set old.states leg InSync }) [] [] (called-acts type old legs (sync-same type old legs true leg called.syncs) is_honest k) (promote-acts type mid leg still synced (may_promote mid leg called.no_cause));
+          })
+
+    -- and one whose sync failed
+    module _ (called : CallsToPromote type false old legs leg) (after : new ≡ lost_all leg (record old { legs = legs })) where
+      pub promote-lost_keeps : Keeps type new
+      promote-lost_keeps = promote_lost-keeps type old new k leg (promote-loses called after)
+
+      pub promote-lost_explained : IsTrue type.honest → IsExplainedStep type.model [] old new
+      promote-lost_explained is_honest = promote_lost-acts type old new k leg (promote-loses called after) is_honest
 
 -- the leg of a stripe of which no more than the legs changed is called in sync
 pub promoted-after : {L : Type 0} (leg : ℕ) (old mid new : StripeState L) → mid ≡ record old { legs = mid.legs } → new ≡ record mid { states = slice_set mid.states leg InSync }

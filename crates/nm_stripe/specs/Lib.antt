@@ -2,6 +2,7 @@ pub mod Apart
 pub mod Begin
 pub mod Bound
 pub mod Calling
+pub mod CallingSteps
 pub mod CallingWrites
 pub mod Copy
 pub mod End

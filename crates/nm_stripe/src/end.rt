@@ -3,11 +3,12 @@ ghost use Rattle.nm_stripe.specs.End.{end_of};
 
 use crate::stripe::Stripe;
 use nm_leg::LegPart;
+use nm_store::Store;
 use std::marker::{Model, PhantomData};
 
 /// What the end of a stripe tells: how many entries it has had, and what is left of its writes.
 ///
-/// Only `Stripe::end` makes one.
+/// Only a stripe makes one.
 #[derive(Drop)]
 pub struct End<L> {
     stripe: u32,
@@ -60,17 +61,24 @@ impl<L> End<L> {
     }
 }
 
+/// What the end of a stripe tells that has this in memory.
+pub(crate) fn end_of<L: LegPart>(store: &Store<L>) -> End<L>
+    ensures { result ≡ end_of store.now }
+{
+    End {
+        stripe: store.place().stripe,
+        total: store.total(),
+        left: store.records_left(),
+        landed: store.records_landed(),
+        of: PhantomData,
+    }
+}
+
 impl<L: LegPart> Stripe<L> {
     /// What the stripe's end tells, if it ended now.
     pub fn end(&self) -> End<L>
         ensures { result ≡ end_of self.now }
     {
-        End {
-            stripe: self.store.place().stripe,
-            total: self.store.total(),
-            left: self.store.records_left(),
-            landed: self.store.records_landed(),
-            of: PhantomData,
-        }
+        end_of(&self.store)
     }
 }

@@ -15,7 +15,11 @@ use nm_rules::Refusal;
 use nm_store::Store;
 
 /// Takes the answer of a flush's leg call.
-fn answer_flush<L: LegPart>(store: &mut Store<L>, leg: u8, done: bool) -> Result<Syncing, Refusal>
+pub(crate) fn answer_flush<L: LegPart>(
+    store: &mut Store<L>,
+    leg: u8,
+    done: bool,
+) -> Result<Syncing, Refusal>
     requires leg { leg < length store.old.legs }
     requires numbers { next_number store.old + unlanded store.old.records
         ≤ max (2 ^ 63) store.old.first }

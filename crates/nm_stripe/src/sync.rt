@@ -34,7 +34,11 @@ pub enum Syncing {
 }
 
 /// Takes the answer of a sync's leg call.
-fn answer_sync<L: LegPart>(store: &mut Store<L>, leg: u8, done: bool) -> Result<Syncing, Refusal>
+pub(crate) fn answer_sync<L: LegPart>(
+    store: &mut Store<L>,
+    leg: u8,
+    done: bool,
+) -> Result<Syncing, Refusal>
     requires leg { leg < length store.old.legs }
     requires numbers { next_number store.old + unlanded store.old.records
         ≤ max (2 ^ 63) store.old.first }
@@ -51,7 +55,7 @@ fn answer_sync<L: LegPart>(store: &mut Store<L>, leg: u8, done: bool) -> Result<
 }
 
 /// Takes the answer of the leg call of a promotion: a sync of a joining leg that lacks nothing.
-fn answer_promote<L: LegPart>(store: &mut Store<L>, leg: u8, done: bool) -> Promotion
+pub(crate) fn answer_promote<L: LegPart>(store: &mut Store<L>, leg: u8, done: bool) -> Promotion
     requires leg { leg < length store.old.legs }
     requires numbers { next_number store.old + unlanded store.old.records
         ≤ max (2 ^ 63) store.old.first }
