@@ -1,0 +1,5 @@
+pub mod FoundReads
+pub mod Lists
+pub mod Outs
+pub mod Same
+pub mod Steps

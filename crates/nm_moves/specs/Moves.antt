@@ -1,0 +1,137 @@
+-- What is done while calls are out: steps of the stripe, which make none, and the making of calls.
+use Rattle.std.specs.Prelude.{◌≡◌, ℕ, true, false, List, [], ◌∷◌, ◌++◌, Some}
+use Rattle.std.specs.Prelude.{length, map}
+use Rattle.nm_fanout.specs.declared.record_data.RecordData.{RecordData}
+use Rattle.nm_leg.specs.Leg.{Leg, LegType, leg_type}
+use Rattle.nm_rules.specs.Failing.{GoesOut}
+use Rattle.nm_rules.specs.Flushed.{durable_of}
+use Rattle.nm_rules.specs.RunBegin.{BeginsRun}
+use Rattle.nm_rules.specs.RunCalls.{ReadsRunAt, WritesRunAt}
+use Rattle.nm_rules.specs.RunClaim.{ClaimsRun}
+use Rattle.nm_rules.specs.Runs.{EntryNames, FitsRun}
+use Rattle.nm_rules.specs.State.{next_number}
+use Rattle.nm_calls.specs.declared.read_out.ReadOut.{ReadOut}
+use Rattle.nm_calls.specs.Answers.{FailsOut, FindsOut, LosesOut, calls_lost, read_answered}
+use Rattle.nm_calls.specs.Asking.{AsksRead as AsksToRead, next_read}
+use Rattle.nm_calls.specs.CallsOut.{Calling, find_read}
+use Rattle.nm_moves.specs.World.{Call, Came, Out, Reads, World, Writes, as_answered, as_it_is}
+use Rattle.nm_moves.specs.World.{made, unmade, writes_at}
+
+-- what becomes of a read's answer: it takes effect, and its first entry has this number; its leg
+-- failed, and goes out; it counts and has no effect, for its leg, the last in sync, failed, or no
+-- numbers are left; or it is only taken off
+pub data ReadEnds : Type 0 where
+  Finds : (number : ℕ) → ReadEnds
+  LosesLeg : ReadEnds
+  IsRefused : ReadEnds
+  IsTakenOff : ReadEnds
+
+-- a call is asked for, made or answered; and steps that make no call
+pub data Move : Type 0 where
+  AsksRead : (leg block count : ℕ) → Move
+  Makes : Call → Came → Move
+  AnswersRead : ReadOut → Came → ReadEnds → Move
+  Begins : (block : ℕ) → List RecordData → (ticket : ℕ) → Move
+  Claims : (ticket : ℕ) → EntryNames → Move
+  Fails : (leg : ℕ) → Move
+
+-- a read that is out is only taken off
+pub record TakesOff {L : Type 0} (ticket : ℕ) (old new : Calling L) : Type 0 where
+  pub read : ReadOut
+  pub out : find_read ticket old.calls.reads ≡ Some read
+  pub after : new ≡ record old { calls = read_answered read old.calls }
+
+-- the stripe takes the answer of the read of this ticket
+abbrev pub EndsRead : {L : Type 0} → LegType L → (ticket : ℕ) → Came → ReadEnds
+    → (old new : Calling L) → Type 0
+EndsRead type ticket came (Finds number) old new =
+    (x : ReadOut) × (x.ticket ≡ ticket) × (came.done ≡ true)
+    × (number ≡ next_number old.stripe) × FindsOut type x old new came.found
+EndsRead type ticket came LosesLeg old new =
+    (x : ReadOut) × (x.ticket ≡ ticket) × (came.done ≡ false)
+    × LosesOut type x old new came.found
+EndsRead type ticket came IsRefused old new =
+    (x : ReadOut) × (x.ticket ≡ ticket) × (x.void ≡ false)
+    × FailsOut type x came.done old new came.found
+EndsRead type ticket came IsTakenOff old new = TakesOff ticket old new
+
+-- what a move does to the stripe and its calls, on legs of this type: a call is made by none
+abbrev pub StepOf : {L : Type 0} → LegType L → Move → (old new : Calling L) → Type 0
+StepOf type (AsksRead leg block count) old new =
+    FitsRun old.stripe.place block count × AsksToRead old new leg block count
+StepOf type (Makes call came) old new = new ≡ old
+StepOf type (AnswersRead x came ends) old new = EndsRead type x.ticket came ends old new
+StepOf type (Begins block ds ticket) old new =
+    BeginsRun old.stripe new.stripe block ds ticket × (new.calls ≡ old.calls)
+StepOf type (Claims ticket names) old new =
+    ClaimsRun old.stripe new.stripe ticket names × (new.calls ≡ old.calls)
+StepOf type (Fails leg) old new =
+    GoesOut old.stripe new.stripe leg × (new.calls ≡ calls_lost leg old.stripe old.calls)
+
+-- the call is made at its leg
+abbrev pub IsMade : {L : Type 0} → LegType L → Call → Came → (old new : List L) → Type 0
+IsMade type (Reads x) came old new =
+    (length came.found ≡ x.count)
+    × ReadsRunAt type came.done x.leg x.block came.found old new
+IsMade type (Writes run leg block blocks) came old new =
+    WritesRunAt type came.done leg block blocks old new
+
+-- A call that is out, and was not made, is made: the legs as they are change, and nothing else.
+pub record MakesCall {L : Type 0} (type : LegType L) (call : Call) (came : Came)
+    (old new : World L) : Type 0 where
+  pub front : List Out
+  pub back : List Out
+  pub was : old.out ≡ front ++ unmade call ∷ back
+  pub is : new.out ≡ front ++ made call came ∷ back
+  pub call_made : IsMade type call came old.legs new.legs
+
+-- A call that was made is answered. The legs as answered have what it wrote now, as its leg has it.
+pub record TakesAnswer {L : Type 0} (type : LegType L) (call : Call) (came : Came)
+    (old new : World L) : Type 0 where
+  pub front : List Out
+  pub back : List Out
+  pub was : old.out ≡ front ++ made call came ∷ back
+  pub is : new.out ≡ front ++ back
+  pub legs : new.legs ≡ old.legs
+  pub written : (leg block : ℕ) → writes_at leg block call ≡ true
+      → as_answered new leg block ≡ as_it_is type old leg block
+  pub others : (leg block : ℕ) → writes_at leg block call ≡ false
+      → as_answered new leg block ≡ as_answered old leg block
+  pub durable : (leg : ℕ) → durable_of (λ l. l) new.calling.stripe.legs leg
+      ≡ durable_of (λ l. l) old.calling.stripe.legs leg
+
+-- nothing is made or answered, and these calls are handed out
+pub record HandsOut {L : Type 0} (calls : List Call) (old new : World L) : Type 0 where
+  pub legs : new.legs ≡ old.legs
+  pub out : new.out ≡ map unmade calls ++ old.out
+
+-- what a move does to the legs as they are, and to what is out
+abbrev pub CallsOf : {L : Type 0} → LegType L → Move → (old new : World L) → Type 0
+CallsOf type (AsksRead leg block count) old new =
+    HandsOut (Reads (next_read leg block count old.calling.calls) ∷ []) old new
+CallsOf type (Makes call came) old new = MakesCall type call came old new
+CallsOf type (AnswersRead x came ends) old new = TakesAnswer type (Reads x) came old new
+CallsOf type (Begins block ds ticket) old new = HandsOut [] old new
+CallsOf type (Claims ticket names) old new = HandsOut [] old new
+CallsOf type (Fails leg) old new = HandsOut [] old new
+
+-- legs as answered, of which a step believes nothing
+abbrev pub unbelieved : LegType Leg
+unbelieved = leg_type (λ leg. leg) false
+
+-- A move, of a stripe that knows no leg and believes none.
+pub record MoveOf {L : Type 0} (type : LegType L) (move : Move) (old new : World L) : Type 0 where
+  pub step : StepOf unbelieved move old.calling new.calling
+  pub calls : CallsOf type move old new
+
+-- the moves, one after the other
+abbrev pub MovesRun : {L : Type 0} → LegType L → List Move → (old new : World L) → Type 0
+MovesRun type [] old new = new ≡ old
+MovesRun {L} type (move ∷ moves) old new =
+    (mid : World L) × MoveOf type move old mid × MovesRun type moves mid new
+
+-- their steps, one after the other
+abbrev pub StepsRun : {L : Type 0} → LegType L → List Move → (old new : Calling L) → Type 0
+StepsRun type [] old new = new ≡ old
+StepsRun {L} type (move ∷ moves) old new =
+    (mid : Calling L) × StepOf type move old mid × StepsRun type moves mid new
