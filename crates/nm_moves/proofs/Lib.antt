@@ -1,5 +1,12 @@
+pub mod Carried
+pub mod Faces
 pub mod FoundReads
+pub mod InTimes
+pub mod Kept
 pub mod Lists
+pub mod MadeCalls
 pub mod Outs
+pub mod ReadAnswers
 pub mod Same
 pub mod Steps
+pub mod WriteAnswers

@@ -21,6 +21,10 @@ module _ (P : Out → Type 0) where
   each-with [] o back one all = (one, all)
   each-with (f ∷ front) o back one all = (all.0, each-with front o back one all.1)
 
+pub each-append : (P : Out → Type 0) (xs ys : List Out) → Each P xs → Each P ys → Each P (xs ++ ys)
+each-append P [] ys first rest = rest
+each-append P (x ∷ xs) ys first rest = (first.0, each-append P xs ys first.1 rest)
+
 pub each-then : (P Q : Out → Type 0) → ((o : Out) → P o → Q o) → (os : List Out) → Each P os → Each Q os
 each-then P Q then [] all = tt
 each-then P Q then (o ∷ os) all = (then o all.0, each-then P Q then os all.1)

@@ -8,8 +8,8 @@ use Rattle.nm_rules.specs.RunClaim.{replies_of}
 use Rattle.nm_rules.specs.RunRead.{marks_of_reads}
 use Rattle.nm_calls.specs.AsAnswered.{KeepsCalls, answered}
 use Rattle.nm_calls.specs.CallsOut.{Calling}
-use Rattle.nm_moves.specs.Moves.{AnswersRead, Begins, Claims, Finds, Move, MovesRun}
-use Rattle.nm_moves.specs.Moves.{StepsRun}
+use Rattle.nm_moves.specs.Moves.{AnswersRead, AnswersWrite, Begins, Claims, Finds, Move}
+use Rattle.nm_moves.specs.Moves.{MovesRun, StepsRun, StopsStripe}
 use Rattle.nm_moves.specs.World.{AreAsAnswered, World}
 
 -- what holds at first: no call is out, the stripe keeps what every stripe keeps, and its legs are
@@ -64,8 +64,14 @@ pub record ActOnOneArray (moves : List Move) (old new : Calling Leg) : Type 0 wh
   pub interleaving : IsInterleaving moves events_of_each
   pub acts : Acts (λ leg. leg) old.stripe new.stripe (concat events_of_each)
 
--- So it is after any moves.
+-- no move stops the stripe
+abbrev pub NoneStops : List Move → Type 0
+NoneStops [] = Unit {0}
+NoneStops (AnswersWrite run leg block blocks came StopsStripe ∷ moves) = ⊥
+NoneStops (move ∷ moves) = NoneStops moves
+
+-- So it is after any moves that do not stop the stripe.
 abbrev pub MovesAct : {L : Type 0} → LegType L → Type 0
 MovesAct {L} type =
     (moves : List Move) (old new : World L) → Starts type old → MovesRun type moves old new
-    → ActOnOneArray moves old.calling new.calling
+    → NoneStops moves → ActOnOneArray moves old.calling new.calling

@@ -1,6 +1,7 @@
 -- What is done while calls are out: steps of the stripe, which make none, and the making of calls.
 use Rattle.std.specs.Prelude.{◌≡◌, ℕ, true, false, List, [], ◌∷◌, ◌++◌, Some}
-use Rattle.std.specs.Prelude.{length, map}
+use Rattle.std.specs.Prelude.{length, map, if◌then◌else◌}
+use Rattle.nm_replay.specs.declared.block.Block.{Block}
 use Rattle.nm_fanout.specs.declared.record_data.RecordData.{RecordData}
 use Rattle.nm_leg.specs.Leg.{Leg, LegType, leg_type}
 use Rattle.nm_rules.specs.Failing.{GoesOut}
@@ -8,12 +9,15 @@ use Rattle.nm_rules.specs.Flushed.{durable_of}
 use Rattle.nm_rules.specs.RunBegin.{BeginsRun}
 use Rattle.nm_rules.specs.RunCalls.{ReadsRunAt, WritesRunAt}
 use Rattle.nm_rules.specs.RunClaim.{ClaimsRun}
-use Rattle.nm_rules.specs.Runs.{EntryNames, FitsRun}
+use Rattle.nm_rules.specs.RunPush.{written_by}
+use Rattle.nm_rules.specs.Runs.{EntryNames, FitsRun, of_run}
 use Rattle.nm_rules.specs.State.{next_number}
 use Rattle.nm_calls.specs.declared.read_out.ReadOut.{ReadOut}
-use Rattle.nm_calls.specs.Answers.{FailsOut, FindsOut, LosesOut, calls_lost, read_answered}
-use Rattle.nm_calls.specs.Asking.{AsksRead as AsksToRead, next_read}
-use Rattle.nm_calls.specs.CallsOut.{Calling, find_read}
+use Rattle.nm_calls.specs.Answers.{FailsOut, FindsOut, HaltsOut, LosesOut, LosesWriteOut, ReachesOut}
+use Rattle.nm_calls.specs.Answers.{calls_lost, read_answered}
+use Rattle.nm_calls.specs.Asking.{AsksRead as AsksToRead, AsksWrite as AsksToWrite}
+use Rattle.nm_calls.specs.Asking.{next_read}
+use Rattle.nm_calls.specs.CallsOut.{Calling, find_read, is_read_on}
 use Rattle.nm_moves.specs.World.{Call, Came, Out, Reads, World, Writes, as_answered, as_it_is}
 use Rattle.nm_moves.specs.World.{made, unmade, writes_at}
 
@@ -26,11 +30,20 @@ pub data ReadEnds : Type 0 where
   IsRefused : ReadEnds
   IsTakenOff : ReadEnds
 
+-- what becomes of a write's answer: its run has reached the leg, and acts if that is the master; its
+-- leg failed, and goes out; or its leg, the last in sync, failed, and the stripe stops
+pub data WriteEnds : Type 0 where
+  ReachesLeg : WriteEnds
+  TakesLegOut : WriteEnds
+  StopsStripe : WriteEnds
+
 -- a call is asked for, made or answered; and steps that make no call
 pub data Move : Type 0 where
   AsksRead : (leg block count : ℕ) → Move
+  AsksWrite : (run leg block : ℕ) → Move
   Makes : Call → Came → Move
   AnswersRead : ReadOut → Came → ReadEnds → Move
+  AnswersWrite : (run leg block : ℕ) → List Block → Came → WriteEnds → Move
   Begins : (block : ℕ) → List RecordData → (ticket : ℕ) → Move
   Claims : (ticket : ℕ) → EntryNames → Move
   Fails : (leg : ℕ) → Move
@@ -55,12 +68,26 @@ EndsRead type ticket came IsRefused old new =
     × FailsOut type x came.done old new came.found
 EndsRead type ticket came IsTakenOff old new = TakesOff ticket old new
 
+-- the stripe takes the answer of a run's write at this leg
+abbrev pub EndsWrite : {L : Type 0} → LegType L → (run leg : ℕ) → Came → WriteEnds
+    → (old new : Calling L) → Type 0
+EndsWrite type run leg came ReachesLeg old new =
+    (came.done ≡ true) × ReachesOut type run leg old new
+EndsWrite type run leg came TakesLegOut old new =
+    (came.done ≡ false) × LosesWriteOut type run leg old new
+EndsWrite type run leg came StopsStripe old new =
+    (came.done ≡ false) × HaltsOut type run leg old new
+
 -- what a move does to the stripe and its calls, on legs of this type: a call is made by none
 abbrev pub StepOf : {L : Type 0} → LegType L → Move → (old new : Calling L) → Type 0
 StepOf type (AsksRead leg block count) old new =
     FitsRun old.stripe.place block count × AsksToRead old new leg block count
+StepOf type (AsksWrite run leg block) old new =
+    (asks : AsksToWrite old new run leg) × (asks.block ≡ block)
 StepOf type (Makes call came) old new = new ≡ old
 StepOf type (AnswersRead x came ends) old new = EndsRead type x.ticket came ends old new
+StepOf type (AnswersWrite run leg block blocks came ends) old new =
+    EndsWrite type run leg came ends old new
 StepOf type (Begins block ds ticket) old new =
     BeginsRun old.stripe new.stripe block ds ticket × (new.calls ≡ old.calls)
 StepOf type (Claims ticket names) old new =
@@ -105,12 +132,23 @@ pub record HandsOut {L : Type 0} (calls : List Call) (old new : World L) : Type 
   pub legs : new.legs ≡ old.legs
   pub out : new.out ≡ map unmade calls ++ old.out
 
+-- the call of a write that is asked for: none where it waits for a read
+abbrev pub asked_write : {L : Type 0} → (run leg block : ℕ) → Calling L → List Call
+asked_write run leg block c =
+    let rs = of_run run c.stripe.records in
+    if is_read_on leg block (length rs) c.calls then []
+    else Writes run leg block (written_by rs) ∷ []
+
 -- what a move does to the legs as they are, and to what is out
 abbrev pub CallsOf : {L : Type 0} → LegType L → Move → (old new : World L) → Type 0
 CallsOf type (AsksRead leg block count) old new =
     HandsOut (Reads (next_read leg block count old.calling.calls) ∷ []) old new
+CallsOf type (AsksWrite run leg block) old new =
+    HandsOut (asked_write run leg block old.calling) old new
 CallsOf type (Makes call came) old new = MakesCall type call came old new
 CallsOf type (AnswersRead x came ends) old new = TakesAnswer type (Reads x) came old new
+CallsOf type (AnswersWrite run leg block blocks came ends) old new =
+    TakesAnswer type (Writes run leg block blocks) came old new
 CallsOf type (Begins block ds ticket) old new = HandsOut [] old new
 CallsOf type (Claims ticket names) old new = HandsOut [] old new
 CallsOf type (Fails leg) old new = HandsOut [] old new
