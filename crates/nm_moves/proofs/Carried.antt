@@ -1,7 +1,7 @@
 -- What each step of the stripe leaves of what is out: reads as they were or void, and writes.
-use Rattle.std.proofs.Common.{◌≡◌, ⊎_elim, ℕ, ◌==◌, Bool, true, false, not, List, [], ◌∷◌, Some, cond, filter, map, refl, sym, ap, ◌∙◌, subst, arith, slice_get, inl, inr}
+use Rattle.std.proofs.Common.{◌≡◌, ⊎_elim, ℕ, ◌==◌, Bool, true, false, not, List, [], ◌∷◌, Some, cond, filter, map, refl, sym, ap, ◌∙◌, subst, arith, slice_get, inl, inr, ◌<◌, ◌/◌, ◌≢◌, length}
 use Rattle.std.specs.List.{list_any}
-use Rattle.std.proofs.lemmas.Bool.{eqb-true}
+use Rattle.std.proofs.lemmas.Bool.{both_ways, eqb-true}
 use Rattle.nm_choice.specs.declared.leg_state.LegState.{LegState}
 use Rattle.nm_replay.specs.declared.block.Block.{Block}
 use Rattle.nm_fanout.specs.declared.record_data.RecordData.{RecordData}
@@ -9,14 +9,18 @@ use Rattle.nm_fanout.specs.declared.write_record.Record.{Record}
 use Rattle.nm_fanout.specs.Records.{without_each}
 use Rattle.nm_fanout.proofs.Owed.{owes-under_way}
 use Rattle.nm_leg.specs.Leg.{Leg, LegType}
-use Rattle.nm_regions.specs.Table.{targets}
-use Rattle.nm_rules.specs.Lost.{lost}
+use Rattle.nm_regions.specs.LegFlags.{is_behind}
+use Rattle.nm_regions.specs.Table.{leg_at, targets}
+use Rattle.nm_rules.specs.Invariant.{is_clear}
+use Rattle.nm_rules.specs.Lost.{dirty_and_out, lost}
 use Rattle.nm_rules.specs.RunBegin.{BeginsRun}
 use Rattle.nm_rules.specs.RunClaim.{ClaimsRun}
 use Rattle.nm_rules.specs.RunPush.{PushesRun, run_landed, run_lands, run_reached}
 use Rattle.nm_rules.specs.Runs.{AreFinished, EntryNames, of_run}
 use Rattle.nm_rules.specs.State.{StripeState, is_out, leg_state, next_number, table}
+use Rattle.nm_rules.proofs.DirtyLemmas.{dirty-marks}
 use Rattle.nm_rules.proofs.RecordLemmas.{one_or_two}
+use Rattle.nm_rules.proofs.StateLemmas.{attached_inside}
 use Rattle.nm_calls.specs.Answers.{reads_over, voided_without}
 use Rattle.nm_calls.specs.AsAnswered.{KeepsCalls, answered}
 use Rattle.nm_calls.specs.declared.read_out.ReadOut.{ReadOut}
@@ -28,7 +32,8 @@ use Rattle.nm_calls.proofs.TakenLemmas.{find-taken}
 use Rattle.nm_calls.proofs.VoidingLemmas.{WasOut, voids-at, voids-found, voids-without, was-counts, was-same}
 use Rattle.nm_moves.proofs.Faces.{faces, faces-claimed, faces-land, faces-lost, faces-more, faces-reach}
 use Rattle.nm_moves.proofs.FoundReads.{CarriesReads, held}
-use Rattle.nm_moves.proofs.InTimes.{CarriesWrites, InTime, IsGone, is_of, lost-gone, lost-still, out-but_call, out-but_leg}
+use Rattle.nm_moves.proofs.InTimes.{CarriesWrites, InTime, IsGone, IsLate, at, going, is_of, lost-gone, lost-still, out-but_call, out-but_leg}
+use Rattle.nm_moves.proofs.LateLegs.{clear-lost, clear-other}
 use Rattle.nm_moves.proofs.Kept.{Any}
 
 -- the records of a run
@@ -84,16 +89,19 @@ module _ (old new : Calling Leg) where
     stays = λ t k x stands. ap (λ (xs : List Block). slice_get xs k) (stays x.leg);
   }
 
-  -- a step that knows each write's call still
-  module _ (states : new.stripe.states ≡ old.stripe.states) where
-    still-gone : (leg : ℕ) → IsGone leg old → IsGone leg new
-    still-gone leg gone = ap (λ (xs : List LegState). is_out (leg_state leg (record old.stripe { states = xs }))) states ∙ gone
+  -- a step that knows each write's call still, and by which no leg is less behind
+  module _ (states : new.stripe.states ≡ old.stripe.states) (clear : (leg k : ℕ) → is_clear leg k old.stripe ≡ false → is_clear leg k new.stripe ≡ false) where
+    still-late : (leg block count : ℕ) → IsLate old leg block count → IsLate new leg block count
+    still-late leg block count late = record {
+      gone = ap (λ (xs : List LegState). is_out (leg_state leg (record old.stripe { states = xs }))) states ∙ late.gone;
+      behind = λ k low high. clear leg k (late.behind k low high);
+    }
 
     pub writes-same : new.calls.writes ≡ old.calls.writes → ((run leg block : ℕ) (blocks : List Block) → InTime old run leg block blocks → faces run new.stripe.records ≡ faces run old.stripe.records) → CarriesWrites Any old new
     writes-same writes leave = record {
       writes = λ run leg block blocks other w.
           inl (record { out = ap (λ (ws : List WriteOut). list_any (is_of run leg) ws) writes ∙ w.out; leaves = leave run leg block blocks w ∙ w.leaves });
-      gone = still-gone;
+      late = λ run leg block count other late. still-late leg block count late;
     }
 
     pub writes-returned : (r l : ℕ) → new.calls.writes ≡ without_write r l old.calls.writes → ((run : ℕ) → faces run new.stripe.records ≡ faces run old.stripe.records) → CarriesWrites (λ run leg. r ≡ run → l ≡ leg → ⊥) old new
@@ -103,26 +111,46 @@ module _ (old new : Calling Leg) where
             out = ap (λ (ws : List WriteOut). list_any (is_of run leg) ws) writes ∙ out-but_call run leg r l old.calls.writes (λ e f. other (sym e) (sym f)) w.out;
             leaves = leave run ∙ w.leaves;
           });
-      gone = still-gone;
+      late = λ run leg block count other late. still-late leg block count late;
     }
 
-  -- a step by which a leg goes out
-  pub writes-lost : (leg : ℕ) (legs : List Leg) (ws : List WriteOut) (Other : ℕ → ℕ → Type 0) → new.stripe ≡ lost leg (record old.stripe { legs = legs }) → new.calls.writes ≡ filter (λ w. not (w.leg == leg)) ws
-      → ((run to : ℕ) → Other run to → list_any (is_of run to) old.calls.writes ≡ true → list_any (is_of run to) ws ≡ true) → CarriesWrites Other old new
-  writes-lost leg legs ws Other stripe writes stay =
-      let was : StripeState Leg = record old.stripe { legs = legs } in
-      record {
-        writes = λ run to block blocks other w.
-            ⊎_elim
-            (λ same. inr (subst (λ (s : StripeState Leg). is_out (leg_state to s) ≡ true) (sym stripe) (subst (λ (i : ℕ). is_out (leg_state i (lost leg was)) ≡ true) (sym same) (lost-gone leg was))))
-            (λ ne.
-            inl (record {
-              out = ap (λ (us : List WriteOut). list_any (is_of run to) us) writes ∙ out-but_leg run to leg ws ne (stay run to other w.out);
-              leaves = ap (λ (s : StripeState Leg). faces run s.records) stripe ∙ faces-lost run leg was ∙ w.leaves;
-            }))
-            (one_or_two to leg);
-        gone = λ to gone. subst (λ (s : StripeState Leg). is_out (leg_state to s) ≡ true) (sym stripe) (lost-still leg was to gone);
-      }
+  -- a step by which a leg goes out: its writes are late
+  module _ (k : KeepsCalls answered old) (leg : ℕ) (legs : List Leg) (attached_is : is_out (leg_state leg old.stripe) ≡ false) (stripe : new.stripe ≡ lost leg (record old.stripe { legs = legs })) where
+    abbrev was : StripeState Leg
+    was = record old.stripe { legs = legs }
+
+    there : leg < length old.stripe.legs
+    there = attached_inside (λ l. l) old.stripe k.stripe.legs leg attached_is
+
+    lost-late : (run block : ℕ) (blocks : List Block) → InTime old run leg block blocks → IsLate new leg block (length blocks)
+    lost-late run block blocks w = record {
+      gone = subst (λ (s : StripeState Leg). is_out (leg_state leg s) ≡ true) (sym stripe) (lost-gone leg was);
+      behind = λ i low high.
+          let r = at old k run leg block blocks w i low high in
+          let marks = dirty-marks (λ l. l) old.stripe leg k.stripe.legs k.stripe.records there in
+          let dirty = subst (λ (n : ℕ). is_behind (n / old.stripe.place.region) (dirty_and_out (table old.stripe).writes (leg_at leg (table old.stripe))) ≡ true) r.here (marks.dirty r.r.ticket r.r r.found (going old k run leg block blocks w i low high)) in
+          subst (λ (s : StripeState Leg). is_clear leg i s ≡ false) (sym stripe) (clear-lost old.stripe legs leg i (let long = there in omega (arith, long, k.stripe.legs.flags)) dirty);
+    }
+
+    pub writes-lost : (ws : List WriteOut) (Other : ℕ → ℕ → Type 0) → new.calls.writes ≡ filter (λ w. not (w.leg == leg)) ws
+        → ((run to : ℕ) → Other run to → list_any (is_of run to) old.calls.writes ≡ true → list_any (is_of run to) ws ≡ true) → CarriesWrites Other old new
+    writes-lost ws Other writes stay = record {
+      writes = λ run to block blocks other w.
+          ⊎_elim
+          (λ same. inr (subst (λ (i : ℕ). IsLate new i block (length blocks)) (sym same) (lost-late run block blocks (subst (λ (i : ℕ). InTime old run i block blocks) same w))))
+          (λ ne.
+          inl (record {
+            out = ap (λ (us : List WriteOut). list_any (is_of run to) us) writes ∙ out-but_leg run to leg ws ne (stay run to other w.out);
+            leaves = ap (λ (s : StripeState Leg). faces run s.records) stripe ∙ faces-lost run leg was ∙ w.leaves;
+          }))
+          (one_or_two to leg);
+      late = λ run to block count other late.
+          let ne : to ≢ leg = λ e. both_ways (is_out (leg_state leg old.stripe)) attached_is (subst (λ (i : ℕ). IsGone i old) e late.gone) in
+          record {
+            gone = subst (λ (s : StripeState Leg). is_out (leg_state to s) ≡ true) (sym stripe) (lost-still leg was to late.gone);
+            behind = λ i low high. subst (λ (s : StripeState Leg). is_clear to i s ≡ false) (sym stripe) (clear-other old.stripe legs leg to i ne ∙ late.behind i low high);
+          };
+    }
 
   -- a run begins, or is claimed
   module _ (k : KeepsCalls answered old) (run leg block : ℕ) (blocks : List Block) (w : InTime old run leg block blocks) where
@@ -164,6 +192,9 @@ module _ {L : Type 0} (type : LegType L) (old new : StripeState L) (run leg : �
       either-push (λ n. faces other n.records ≡ faces other old.records)
       (faces-land other leg (next_number old) (of_run run old.records) old.records)
       (faces-reach other leg (of_run run old.records) old.records)
+
+  pub push-clear : (j k : ℕ) → is_clear j k new ≡ is_clear j k old
+  push-clear j k = either-push (λ n. is_clear j k n ≡ is_clear j k old) refl refl
 
   pub push-states : new.states ≡ old.states
   push-states = either-push (λ n. n.states ≡ old.states) refl refl

@@ -8,12 +8,13 @@ use Rattle.nm_choice.specs.declared.leg_state.LegState.{LegState}
 use Rattle.nm_choice.specs.declared.leg_state.LegState.TheVariants.{Out}
 use Rattle.nm_replay.specs.declared.block.Block.{Block}
 use Rattle.nm_fanout.specs.declared.write_record.Record.{Record}
-use Rattle.nm_fanout.specs.Record.{owes}
+use Rattle.nm_fanout.specs.Record.{is_under_way, owes}
 use Rattle.nm_fanout.specs.Records.{busy_on}
 use Rattle.nm_fanout.proofs.Owed.{owes-under_way}
 use Rattle.nm_fanout.proofs.Writers.{busy_on-here}
 use Rattle.nm_leg.specs.Leg.{HoldsRun, Leg, LegType}
 use Rattle.nm_rules.specs.Array.{contents_of}
+use Rattle.nm_rules.specs.Invariant.{is_clear}
 use Rattle.nm_rules.specs.Lost.{failed_over, lost, settled, without_leg_of}
 use Rattle.nm_rules.specs.State.{StripeState, is_out, leg_state}
 use Rattle.nm_rules.proofs.AttachLemmas.{set-other}
@@ -35,9 +36,14 @@ pub record InTime (c : Calling Leg) (run leg block : ℕ) (blocks : List Block) 
 abbrev pub IsGone : ℕ → Calling Leg → Type 0
 IsGone leg c = is_out (leg_state leg c.stripe) ≡ true
 
+-- a write is late: its leg has gone out, and is behind at each of its blocks
+pub record IsLate (c : Calling Leg) (leg block count : ℕ) : Type 0 where
+  pub gone : IsGone leg c
+  pub behind : (k : ℕ) → block ≤ k → k < block + count → is_clear leg k c.stripe ≡ false
+
 module _ (c : Calling Leg) (k : KeepsCalls answered c) (run leg block : ℕ) (blocks : List Block) (w : InTime c run leg block blocks) (i : ℕ) (low : block ≤ i) (high : i < block + length blocks) where
   -- a record of its run at each of its blocks is under way
-  at : AtBlock run i c.stripe.records
+  pub at : AtBlock run i c.stripe.records
   at = at-block run block i blocks c.stripe.records k.stripe.records.in_order.ascending w.leaves low high
 
   out-of : is_out_on leg at.r.run c.calls ≡ true
@@ -46,10 +52,13 @@ module _ (c : Calling Leg) (k : KeepsCalls answered c) (run leg block : ℕ) (bl
   owed : owes leg at.r ≡ true
   owed = k.calls.owed at.r.ticket leg at.r at.found out-of
 
+  pub going : is_under_way at.r ≡ true
+  going = owes-under_way leg at.r owed
+
   busy : busy_on i c.stripe.records ≡ Some at.r
   busy =
       subst (λ (n : ℕ). busy_on n c.stripe.records ≡ Some at.r) at.here
-      (busy_on-here at.r.ticket c.stripe.records at.r k.stripe.records.in_order.ascending k.stripe.records.one_writer at.found (owes-under_way leg at.r owed))
+      (busy_on-here at.r.ticket c.stripe.records at.r k.stripe.records.in_order.ascending k.stripe.records.one_writer at.found going)
 
   pub busy-with : (r : Record) × (busy_on i c.stripe.records ≡ Some r) × (r.run ≡ run)
   busy-with = (at.r, busy, at.of)
@@ -81,19 +90,19 @@ GoodIf type legs leg block blocks None = Unit {0}
 GoodIf type legs leg block blocks (Some came) = came.done ≡ true → HoldsRun block blocks (contents_of type.model legs leg)
 
 abbrev pub WriteKept : {L : Type 0} → LegType L → List L → Calling Leg → (run leg block : ℕ) → List Block → Option Came → Type 0
-WriteKept type legs c run leg block blocks came = (InTime c run leg block blocks × GoodIf type legs leg block blocks came) ⊎ IsGone leg c
+WriteKept type legs c run leg block blocks came = (InTime c run leg block blocks × GoodIf type legs leg block blocks came) ⊎ IsLate c leg block (length blocks)
 
 -- a step by which each write's call of these is known still, or its leg has gone out
 pub record CarriesWrites (Other : ℕ → ℕ → Type 0) (old new : Calling Leg) : Type 0 where
-  pub writes : (run leg block : ℕ) (blocks : List Block) → Other run leg → InTime old run leg block blocks → InTime new run leg block blocks ⊎ IsGone leg new
-  pub gone : (leg : ℕ) → IsGone leg old → IsGone leg new
+  pub writes : (run leg block : ℕ) (blocks : List Block) → Other run leg → InTime old run leg block blocks → InTime new run leg block blocks ⊎ IsLate new leg block (length blocks)
+  pub late : (run leg block count : ℕ) → Other run leg → IsLate old leg block count → IsLate new leg block count
 
 pub write-kept : {L : Type 0} (type : LegType L) (legs : List L) (Other : ℕ → ℕ → Type 0) (old new : Calling Leg) → CarriesWrites Other old new → (run leg block : ℕ) (blocks : List Block) (came : Option Came) → Other run leg
     → WriteKept type legs old run leg block blocks came → WriteKept type legs new run leg block blocks came
 write-kept type legs Other old new q run leg block blocks came other kept =
     ⊎_elim
-    (λ w. ⊎_elim (λ still. inl (still, w.1)) (λ gone. inr gone) (q.writes run leg block blocks other w.0))
-    (λ gone. inr (q.gone leg gone))
+    (λ w. ⊎_elim (λ still. inl (still, w.1)) (λ late. inr late) (q.writes run leg block blocks other w.0))
+    (λ late. inr (q.late run leg block (length blocks) other late))
     kept
 
 -- a call that is out still
@@ -180,3 +189,7 @@ lost-still leg s j out =
     (λ is. subst (λ (i : ℕ). is_out (leg_state i (lost leg s)) ≡ true) (sym is) (lost-gone leg s))
     (λ ne. ap (λ (xs : List LegState). is_out (slice_index_or xs j Out)) (lost-states leg s) ∙ ap (λ (x : LegState). is_out x) (set-other s.states leg j Out Out ne) ∙ out)
     (one_or_two j leg)
+
+pub lost-was : {L : Type 0} (leg : ℕ) (s : StripeState L) (j : ℕ) → j ≢ leg → is_out (leg_state j (lost leg s)) ≡ true → is_out (leg_state j s) ≡ true
+lost-was leg s j ne out =
+    ap (λ (x : LegState). is_out x) (sym (set-other s.states leg j Out Out ne)) ∙ ap (λ (xs : List LegState). is_out (slice_index_or xs j Out)) (sym (lost-states leg s)) ∙ out

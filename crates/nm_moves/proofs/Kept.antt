@@ -1,20 +1,22 @@
 -- What holds while calls are out: of each call, by what the stripe knows of it, and of any two writes.
-use Rattle.std.proofs.Common.{◌≡◌, ⊎_elim, ℕ, ◌+◌, ◌<◌, ◌≤◌, ◌==◌, ◌&&◌, ◌||◌, Bool, true, false, List, [], ◌∷◌, ◌++◌, Option, length, refl, sym, ap, ◌∙◌, subst, arith, is_some, nat_le, nat_lt}
+use Rattle.std.proofs.Common.{◌≡◌, ⊎_elim, ℕ, ◌+◌, ◌<◌, ◌≤◌, ◌==◌, ◌&&◌, ◌||◌, Bool, true, false, List, [], ◌∷◌, ◌++◌, Option, length, refl, sym, ap, ◌∙◌, subst, arith, is_some, nat_le, nat_lt, cond, slice_get, Some, None}
 use Rattle.std.proofs.lemmas.Bool.{and_parts, both_ways, eqb-true}
 use Rattle.std.proofs.lemmas.Bool.Decides.{nat_tests}
 use Rattle.nm_replay.specs.declared.block.Block.{Block}
-use Rattle.nm_fanout.specs.Records.{is_among}
+use Rattle.nm_fanout.specs.Records.{busy_on, is_among}
 use Rattle.nm_leg.specs.Leg.{Leg, LegType}
-use Rattle.nm_rules.specs.State.{is_out, leg_state}
+use Rattle.nm_rules.specs.State.{StripeState, is_current, is_out, leg_state}
 use Rattle.nm_rules.proofs.RelabelLemmas.{current-attached}
+use Rattle.nm_rules.proofs.SoundLemmas.{keeps-sound}
 use Rattle.nm_calls.specs.AsAnswered.{KeepsCalls, answered}
 use Rattle.nm_calls.specs.declared.read_out.ReadOut.{ReadOut}
-use Rattle.nm_calls.specs.CallsOut.{Calling}
+use Rattle.nm_calls.specs.CallsOut.{Calling, LegCalls, count_out}
 use Rattle.nm_calls.specs.HasCalls.{IsStanding}
 use Rattle.nm_calls.proofs.WriteOutLemmas.{never}
+use Rattle.nm_moves.specs.Laws.{HoldTheArray}
 use Rattle.nm_moves.specs.World.{AreAsAnswered, Call, Came, Out, Reads, World, Writes, is_made_on, made, unmade, writes_at}
 use Rattle.nm_moves.proofs.FoundReads.{CarriesReads, ReadKept, read-kept}
-use Rattle.nm_moves.proofs.InTimes.{CarriesWrites, InTime, IsGone, WriteKept, attached, one-run, unread, write-kept}
+use Rattle.nm_moves.proofs.InTimes.{CarriesWrites, InTime, IsGone, WriteKept, attached, busy-with, one-run, unread, write-kept}
 use Rattle.nm_moves.proofs.Outs.{Each, each-of, each-other, each-with}
 
 -- what holds of a call that is out
@@ -34,12 +36,26 @@ abbrev pub AreApart : List Out → Type 0
 AreApart [] = Unit {0}
 AreApart (o ∷ os) = Each (λ p. Differ o.call p.call) os × AreApart os
 
+-- how many writes of a leg are out
+abbrev pub one_on : ℕ → Call → ℕ
+one_on leg (Reads x) = 0
+one_on leg (Writes run to block blocks) = cond (to == leg) 1 0
+
+abbrev pub writes_on : ℕ → List Out → ℕ
+writes_on leg [] = 0
+writes_on leg (o ∷ os) = one_on leg o.call + writes_on leg os
+
+-- a leg that has gone out counts its late writes too
+abbrev pub CountsLate : Calling Leg → List Out → Type 0
+CountsLate c out = (i : ℕ) (l : LegCalls) → slice_get c.calls.legs i ≡ Some l → IsGone i c → count_out i c.calls + writes_on i out ≤ l.out
+
 -- what holds while calls are out
 pub record InStep {L : Type 0} (type : LegType L) (w : World L) : Type 0 where
   pub keeps : KeepsCalls answered w.calling
   pub same : AreAsAnswered type w
   pub each : Each (IsKept type w.legs w.calling) w.out
   pub apart : AreApart w.out
+  pub counted : CountsLate w.calling w.out
 
 differ-back : (a b : Call) → Differ a b → Differ b a
 differ-back (Writes run leg block blocks) (Writes other to first more) d = λ e f. d (sym e) (sym f)
@@ -131,10 +147,10 @@ module _ {L : Type 0} (type : LegType L) (legs : List L) (c : Calling Leg) (k : 
         let t = there x.leg i to first (length blocks) yes in
         ⊎_elim
         (λ w. unread c k run to first blocks w.0 i t.low t.high x stands t.leg_is)
-        (λ gone.
+        (λ late.
         both_ways (is_out (leg_state x.leg c.stripe))
         (current-attached answered c.stripe x.leg i k.stripe.legs k.stripe.chunk (k.calls.current x.ticket i x stands))
-        (subst (λ (n : ℕ). is_out (leg_state n c.stripe) ≡ true) t.leg_is gone))
+        (subst (λ (n : ℕ). is_out (leg_state n c.stripe) ≡ true) t.leg_is late.gone))
         h)
 
     pub free-read : (os : List Out) → Each (IsKept type legs c) os → is_made_on x.leg i os ≡ false
@@ -153,7 +169,7 @@ module _ {L : Type 0} (type : LegType L) (legs : List L) (c : Calling Leg) (k : 
         let t = there leg i to first (length more) yes in
         ⊎_elim
         (λ v. d (one-run c k run leg block blocks w other to first more v.0 i low high t.low t.high) (sym t.leg_is))
-        (λ gone. attached c k run leg block blocks w i low high (subst (λ (n : ℕ). IsGone n c) t.leg_is gone))
+        (λ late. attached c k run leg block blocks w i low high (subst (λ (n : ℕ). IsGone n c) t.leg_is late.gone))
         h)
 
     pub free-write : (os : List Out) → Each (λ o. Differ (Writes run leg block blocks) o.call) os → Each (IsKept type legs c) os → is_made_on leg i os ≡ false
@@ -162,3 +178,30 @@ module _ {L : Type 0} (type : LegType L) (legs : List L) (c : Calling Leg) (k : 
         each : (os : List Out) → Each (λ o. Differ (Writes run leg block blocks) o.call) os → Each (IsKept type legs c) os → Each (λ o. writes_at leg i o.call ≡ false) os
         each [] ds all = tt
         each (o ∷ os) ds all = (write-free o.call o.came ds.0 all.0, each os ds.1 all.1)
+
+-- Each leg, as it is, holds the array where it is current and no write is under way.
+module _ {L : Type 0} (type : LegType L) (w : World L) (s : InStep type w) where
+  abbrev stripe : StripeState Leg
+  stripe = w.calling.stripe
+
+  module _ (leg block : ℕ) (current : is_current leg block stripe ≡ true) (free : busy_on block stripe.records ≡ None) where
+    idle : (call : Call) (came : Option Came) → kept type w.legs w.calling call came → writes_at leg block call ≡ false
+    idle (Reads x) came h = refl
+    idle (Writes run to first blocks) came h =
+        never ((to == leg) && is_among first (length blocks) block) (λ yes.
+        let t = there leg block to first (length blocks) yes in
+        ⊎_elim
+        (λ v. let busy = busy-with w.calling s.keeps run to first blocks v.0 block t.low t.high in let clash : None ≡ Some busy.0 = sym free ∙ busy.1 in let e : ⊥ = cc in e)
+        (λ late.
+        both_ways (is_out (leg_state leg stripe)) (current-attached answered stripe leg block s.keeps.stripe.legs s.keeps.stripe.chunk current)
+        (subst (λ (n : ℕ). is_out (leg_state n stripe) ≡ true) t.leg_is late.gone))
+        h)
+
+    all-idle : (os : List Out) → Each (IsKept type w.legs w.calling) os → Each (λ o. writes_at leg block o.call ≡ false) os
+    all-idle [] all = tt
+    all-idle (o ∷ os) all = (idle o.call o.came all.0, all-idle os all.1)
+
+  pub hold-the-array : stripe.stopped ≡ false → HoldTheArray type w
+  hold-the-array runs leg block inside below current free =
+      s.same leg block (none-by leg block w.out (all-idle leg block current free w.out s.each))
+      ∙ (keeps-sound answered stripe s.keeps.stripe).current refl runs leg block inside below current free

@@ -1,8 +1,12 @@
+pub mod Answered
+pub mod Asked
 pub mod Carried
 pub mod Faces
 pub mod FoundReads
 pub mod InTimes
 pub mod Kept
+pub mod LateCounts
+pub mod LateLegs
 pub mod Lists
 pub mod MadeCalls
 pub mod Outs

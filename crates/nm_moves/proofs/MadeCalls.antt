@@ -110,7 +110,7 @@ module _ {L : Type 0} (type : LegType L) (is_honest : IsTrue type.honest) (old n
       let t = there to i leg block (length blocks) yes in
       ⊎_elim
       (λ w. d (one-run old.calling s.keeps run leg block blocks w.0 other to first more v i t.low t.high low high) t.leg_is)
-      (λ gone. attached old.calling s.keeps other to first more v i low high (subst (λ (n : ℕ). IsGone n old.calling) t.leg_is gone))
+      (λ late. attached old.calling s.keeps other to first more v i low high (subst (λ (n : ℕ). IsGone n old.calling) t.leg_is late.gone))
       k)
 
   one-stays : (call : Call) (came : Came) (m : MakesCall type call came old new) → kept type old.legs old.calling call None → (o : Call) (oc : Option Came) → Differ call o → kept type old.legs old.calling o oc → kept type new.legs old.calling o oc

@@ -1,5 +1,5 @@
 -- A write's call is answered: it is as if it were made then, on the legs as they were answered.
-use Rattle.std.proofs.Common.{◌≡◌, ⊎_elim, ℕ, ◌+◌, ◌-◌, ◌<◌, ◌≤◌, ◌==◌, ◌&&◌, Bool, true, false, List, ◌∷◌, Some, length, refl, sym, ap, ◌∙◌, subst, arith, slice_get, nat_lt, eq-eqb}
+use Rattle.std.proofs.Common.{◌≡◌, inl, ⊎_elim, ℕ, ◌+◌, ◌-◌, ◌<◌, ◌≤◌, ◌==◌, ◌&&◌, Bool, true, false, List, ◌∷◌, Some, length, refl, sym, ap, ◌∙◌, subst, arith, slice_get, nat_lt, eq-eqb, ◌⊎◌, inr}
 use Rattle.std.proofs.lemmas.Bool.{both_ways, le-leb, lt-ltb}
 use Rattle.nm_replay.specs.declared.block.Block.{Block}
 use Rattle.nm_replay.specs.Array.{Array}
@@ -24,11 +24,11 @@ use Rattle.nm_calls.specs.CallsOut.{is_out_on}
 use Rattle.nm_calls.specs.HasCalls.{IsStanding}
 use Rattle.nm_calls.proofs.ReachedOutLemmas.{true-is}
 use Rattle.nm_calls.proofs.WriteOutLemmas.{never}
-use Rattle.nm_moves.specs.Moves.{EndsWrite, ReachesLeg, StopsStripe, TakesAnswer, TakesLegOut, WriteEnds, unbelieved}
+use Rattle.nm_moves.specs.Moves.{ComesLate, EndsWrite, ReachesLeg, StopsStripe, TakesAnswer, TakesLegOut, WriteEnds, unbelieved}
 use Rattle.nm_moves.specs.World.{Came, Out, World, Writes, made, writes_at}
 use Rattle.nm_moves.proofs.Faces.{faces-owed, same-from}
 use Rattle.nm_moves.proofs.FoundReads.{held}
-use Rattle.nm_moves.proofs.InTimes.{GoodIf, InTime, IsGone, attached, inside, unread}
+use Rattle.nm_moves.proofs.InTimes.{GoodIf, InTime, IsGone, IsLate, attached, inside, unread}
 use Rattle.nm_moves.proofs.Kept.{InStep, IsKept, kept, there}
 use Rattle.nm_moves.proofs.MadeCalls.{holds-at}
 use Rattle.nm_moves.proofs.Outs.{Each, each-of}
@@ -113,7 +113,7 @@ module _ {L : Type 0} (type : LegType L) (old new : World L) (s : InStep type ol
     abbrev bs : List Block
     bs = written_by (of_run run old.calling.stripe.records)
 
-    not-gone : IsGone leg old.calling → ⊥
+    pub not-gone : IsGone leg old.calling → ⊥
     not-gone gone =
         let k = s.keeps in
         let may = may_push_run old.calling.stripe run leg f.no_cause in
@@ -124,7 +124,7 @@ module _ {L : Type 0} (type : LegType L) (old new : World L) (s : InStep type ol
     linked =
         let may = may_push_run old.calling.stripe run leg f.no_cause in
         let some : 0 < length bs = subst (λ (qs : List Record). 0 < length (written_by qs)) (sym may.all) (omega arith) in
-        let both = ⊎_elim (λ w. w) (λ gone. absurd (not-gone gone)) mine in
+        let both = ⊎_elim (λ w. w) (λ late. absurd (not-gone late.gone)) mine in
         let same = same-from block f.block blocks bs (sym both.0.leaves ∙ faces-owed run f.block leg old.calling.stripe.records f.are) in
         record {
           time = both.0;
@@ -143,14 +143,19 @@ module _ {L : Type 0} (type : LegType L) (old new : World L) (s : InStep type ol
       (subst (λ (n : ℕ). WritesRunAt unbelieved done leg n blocks was now) (sym l.block_is)
       (subst (λ (xs : List Block). WritesRunAt unbelieved done leg f.block xs was now) (sym l.blocks_are) f.writes))))
 
-  -- the call is in time
-  pub in-time : (ends : WriteEnds) → EndsWrite unbelieved run leg came ends old.calling new.calling → InTime old.calling run leg block blocks
-  in-time ReachesLeg step = (linked true now step.1.out step.1.stripe.called).time
-  in-time TakesLegOut step = (linked false now step.1.out step.1.stripe.called).time
-  in-time StopsStripe step = (linked false now step.1.out step.1.stripe.called).time
+  -- the leg of a call that is not late is attached
+  pub in-time : (ends : WriteEnds) → EndsWrite unbelieved run leg block blocks came ends old.calling new.calling → (IsGone leg old.calling → ⊥) ⊎ (is_out_on leg run old.calling.calls ≡ false)
+  in-time ReachesLeg step = inl (not-gone true now step.1.out step.1.stripe.called)
+  in-time TakesLegOut step = inl (not-gone false now step.1.out step.1.stripe.called)
+  in-time StopsStripe step = inl (not-gone false now step.1.out step.1.stripe.called)
+  in-time ComesLate step = inr step.late
+
+  -- and a call that the stripe does not know is late
+  pub is-late : is_out_on leg run old.calling.calls ≡ false → IsLate old.calling leg block (length blocks)
+  is-late none = ⊎_elim (λ w. absurd (both_ways (is_out_on leg run old.calling.calls) none w.0.out)) (λ late. late) mine
 
   -- the step is one on honest legs
-  pub believed-ends_write : (ends : WriteEnds) → EndsWrite unbelieved run leg came ends old.calling new.calling → EndsWrite answered run leg came ends old.calling new.calling
+  pub believed-ends_write : (ends : WriteEnds) → EndsWrite unbelieved run leg block blocks came ends old.calling new.calling → EndsWrite answered run leg block blocks came ends old.calling new.calling
   believed-ends_write ReachesLeg step =
       let f = step.1 in (
         step.0,
@@ -189,10 +194,38 @@ module _ {L : Type 0} (type : LegType L) (old new : World L) (s : InStep type ol
           calls = f.calls;
         },
       )
+  believed-ends_write ComesLate step =
+      let r = step.writes in
+      let before : held was leg ≡ r.before.contents = calls-before id was now leg r.before r.after r.change in
+      let after : held now leg ≡ r.after.contents = calls-after id was now leg r.before r.after r.change in
+      record {
+        late = step.late;
+        writes = record {
+          before = r.before;
+          after = r.after;
+          change = r.change;
+          writes = record {
+            calls = r.writes.calls;
+            written = λ _ never_is. absurd (let e : ⊥ = cc in e);
+            others = λ _ k out.
+                ap (λ (xs : Array). slice_get xs k) (sym after) ∙ a.others leg k (writes-outside run leg block blocks k out) ∙ ap (λ (xs : Array). slice_get xs k) before;
+            durable_others = λ _ k out.
+                ap (λ (xs : Array). slice_get xs k) (sym (calls-durable_after id was now leg r.before r.after r.change) ∙ a.durable leg ∙ calls-durable_before id was now leg r.before r.after r.change);
+          };
+        };
+        stripe = step.stripe;
+        calls = step.calls;
+      }
 
   -- where a read counts the legs stay
-  pub write-stays : InTime old.calling run leg block blocks → (x : ReadOut) (k : ℕ) → IsStanding x.ticket x k old.calling.calls → slice_get (held now x.leg) k ≡ slice_get (held was x.leg) k
-  write-stays w x k stands =
+  pub write-stays : (x : ReadOut) (k : ℕ) → IsStanding x.ticket x k old.calling.calls → slice_get (held now x.leg) k ≡ slice_get (held was x.leg) k
+  write-stays x k stands =
       a.others x.leg k (never ((leg == x.leg) && is_among block (length blocks) k) (λ yes.
       let t = there x.leg k leg block (length blocks) yes in
-      unread old.calling s.keeps run leg block blocks w k t.low t.high x stands t.leg_is))
+      ⊎_elim
+      (λ w. unread old.calling s.keeps run leg block blocks w.0 k t.low t.high x stands t.leg_is)
+      (λ late.
+      both_ways (is_out (leg_state x.leg old.calling.stripe))
+      (current-attached answered old.calling.stripe x.leg k s.keeps.stripe.legs s.keeps.stripe.chunk (s.keeps.calls.current x.ticket k x stands))
+      (subst (λ (n : ℕ). IsGone n old.calling) t.leg_is late.gone))
+      mine))

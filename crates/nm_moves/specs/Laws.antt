@@ -1,16 +1,20 @@
 -- What holds while calls are out, after any moves: each call may be said to be made at its answer.
-use Rattle.std.specs.Prelude.{◌≡◌, List, [], ◌∷◌, ◌++◌}
+use Rattle.std.specs.Prelude.{◌≡◌, ℕ, ◌<◌, true, false, List, [], ◌∷◌, ◌++◌, None, length}
+use Rattle.std.specs.Prelude.{slice_get}
 use Rattle.nm_replay.specs.Events.{Event, marks_of}
 use Rattle.nm_leg.specs.Leg.{Leg, LegType}
+use Rattle.nm_fanout.specs.Records.{busy_on}
 use Rattle.nm_rules.specs.Acts.{Acts}
+use Rattle.nm_rules.specs.Array.{stripe_array}
 use Rattle.nm_rules.specs.RunBegin.{begins_of, puts_of}
 use Rattle.nm_rules.specs.RunClaim.{replies_of}
 use Rattle.nm_rules.specs.RunRead.{marks_of_reads}
+use Rattle.nm_rules.specs.State.{is_current}
 use Rattle.nm_calls.specs.AsAnswered.{KeepsCalls, answered}
 use Rattle.nm_calls.specs.CallsOut.{Calling}
 use Rattle.nm_moves.specs.Moves.{AnswersRead, AnswersWrite, Begins, Claims, Finds, Move}
 use Rattle.nm_moves.specs.Moves.{MovesRun, StepsRun, StopsStripe}
-use Rattle.nm_moves.specs.World.{AreAsAnswered, World}
+use Rattle.nm_moves.specs.World.{AreAsAnswered, World, as_it_is}
 
 -- what holds at first: no call is out, the stripe keeps what every stripe keeps, and its legs are
 -- as they were answered
@@ -26,11 +30,21 @@ CallsAreMadeAtTheirAnswers {L} type =
     (moves : List Move) (old new : World L) → Starts type old → MovesRun type moves old new
     → StepsRun answered moves old.calling new.calling
 
+-- each leg, as it is, holds the stripe's array at each block where it is current, unless a write is
+-- under way there
+abbrev pub HoldTheArray : {L : Type 0} → LegType L → World L → Type 0
+HoldTheArray type w =
+    let stripe = w.calling.stripe in
+    (leg block : ℕ) → leg < length stripe.legs → block < stripe.place.blocks
+    → is_current leg block stripe ≡ true → busy_on block stripe.records ≡ None
+    → as_it_is type w leg block ≡ slice_get (stripe_array (λ l. l) stripe) block
+
 -- What a stripe keeps it keeps on its legs as they were answered, and its legs as they are differ
--- from those only where a write was made that is not answered.
+-- from those only where a write was made that is not answered: so they hold the array.
 pub record HoldWhileOut {L : Type 0} (type : LegType L) (w : World L) : Type 0 where
   pub keeps : KeepsCalls answered w.calling
   pub same : AreAsAnswered type w
+  pub array : w.calling.stripe.stopped ≡ false → HoldTheArray type w
 
 -- So it is after any moves.
 abbrev pub Hold : {L : Type 0} → LegType L → Type 0

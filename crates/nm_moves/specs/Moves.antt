@@ -13,11 +13,11 @@ use Rattle.nm_rules.specs.RunPush.{written_by}
 use Rattle.nm_rules.specs.Runs.{EntryNames, FitsRun, of_run}
 use Rattle.nm_rules.specs.State.{next_number}
 use Rattle.nm_calls.specs.declared.read_out.ReadOut.{ReadOut}
-use Rattle.nm_calls.specs.Answers.{FailsOut, FindsOut, HaltsOut, LosesOut, LosesWriteOut, ReachesOut}
-use Rattle.nm_calls.specs.Answers.{calls_lost, read_answered}
+use Rattle.nm_calls.specs.Answers.{FailsOut, FindsOut, HaltsOut, LosesOut, LosesWriteOut}
+use Rattle.nm_calls.specs.Answers.{ReachesOut, calls_lost, read_answered, returned_on}
 use Rattle.nm_calls.specs.Asking.{AsksRead as AsksToRead, AsksWrite as AsksToWrite}
 use Rattle.nm_calls.specs.Asking.{next_read}
-use Rattle.nm_calls.specs.CallsOut.{Calling, find_read, is_read_on}
+use Rattle.nm_calls.specs.CallsOut.{Calling, find_read, is_out_on, is_read_on}
 use Rattle.nm_moves.specs.World.{Call, Came, Out, Reads, World, Writes, as_answered, as_it_is}
 use Rattle.nm_moves.specs.World.{made, unmade, writes_at}
 
@@ -30,12 +30,14 @@ pub data ReadEnds : Type 0 where
   IsRefused : ReadEnds
   IsTakenOff : ReadEnds
 
--- what becomes of a write's answer: its run has reached the leg, and acts if that is the master; its
--- leg failed, and goes out; or its leg, the last in sync, failed, and the stripe stops
+-- what becomes of a write's answer: its run has reached the leg, and acts if that is the master;
+-- the leg failed, and goes out; the leg, the last in sync, failed, and the stripe stops; or it is
+-- late, and only taken off
 pub data WriteEnds : Type 0 where
   ReachesLeg : WriteEnds
   TakesLegOut : WriteEnds
   StopsStripe : WriteEnds
+  ComesLate : WriteEnds
 
 -- a call is asked for, made or answered; and steps that make no call
 pub data Move : Type 0 where
@@ -68,15 +70,26 @@ EndsRead type ticket came IsRefused old new =
     × FailsOut type x came.done old new came.found
 EndsRead type ticket came IsTakenOff old new = TakesOff ticket old new
 
--- the stripe takes the answer of a run's write at this leg
-abbrev pub EndsWrite : {L : Type 0} → LegType L → (run leg : ℕ) → Came → WriteEnds
-    → (old new : Calling L) → Type 0
-EndsWrite type run leg came ReachesLeg old new =
+-- A write's call that the stripe knows no more is only taken off: its leg has gone out. As after a
+-- write that failed, the leg has any bytes in its blocks.
+pub record LateWriteOut {L : Type 0} (type : LegType L) (run leg block : ℕ) (blocks : List Block)
+    (old new : Calling L) : Type 0 where
+  pub late : is_out_on leg run old.calls ≡ false
+  pub writes : WritesRunAt type false leg block blocks old.stripe.legs new.stripe.legs
+  pub stripe : new.stripe ≡ record old.stripe { legs = new.stripe.legs }
+  pub calls : new.calls ≡ record old.calls { legs = returned_on leg old.calls.legs }
+
+-- the stripe takes the answer of a run's write of these blocks at this leg
+abbrev pub EndsWrite : {L : Type 0} → LegType L → (run leg block : ℕ) → List Block → Came
+    → WriteEnds → (old new : Calling L) → Type 0
+EndsWrite type run leg block blocks came ReachesLeg old new =
     (came.done ≡ true) × ReachesOut type run leg old new
-EndsWrite type run leg came TakesLegOut old new =
+EndsWrite type run leg block blocks came TakesLegOut old new =
     (came.done ≡ false) × LosesWriteOut type run leg old new
-EndsWrite type run leg came StopsStripe old new =
+EndsWrite type run leg block blocks came StopsStripe old new =
     (came.done ≡ false) × HaltsOut type run leg old new
+EndsWrite type run leg block blocks came ComesLate old new =
+    LateWriteOut type run leg block blocks old new
 
 -- what a move does to the stripe and its calls, on legs of this type: a call is made by none
 abbrev pub StepOf : {L : Type 0} → LegType L → Move → (old new : Calling L) → Type 0
@@ -87,7 +100,7 @@ StepOf type (AsksWrite run leg block) old new =
 StepOf type (Makes call came) old new = new ≡ old
 StepOf type (AnswersRead x came ends) old new = EndsRead type x.ticket came ends old new
 StepOf type (AnswersWrite run leg block blocks came ends) old new =
-    EndsWrite type run leg came ends old new
+    EndsWrite type run leg block blocks came ends old new
 StepOf type (Begins block ds ticket) old new =
     BeginsRun old.stripe new.stripe block ds ticket × (new.calls ≡ old.calls)
 StepOf type (Claims ticket names) old new =
