@@ -4,6 +4,7 @@ pub mod Carried
 pub mod Faces
 pub mod FoundReads
 pub mod InTimes
+pub mod Joined
 pub mod Kept
 pub mod LateCounts
 pub mod LateLegs

@@ -4,6 +4,8 @@ use Rattle.std.proofs.lemmas.Bool.{both_ways}
 use Rattle.nm_replay.specs.declared.block.Block.{Block}
 use Rattle.nm_leg.specs.Leg.{Leg, LegType}
 use Rattle.nm_rules.specs.declared.refusal.Refusal.TheVariants.{AlreadyOut}
+use Rattle.nm_rules.specs.Attach.{after_attach}
+use Rattle.nm_moves.proofs.Joined.{joined-counts, joined-each}
 use Rattle.nm_rules.specs.Failing.{GoesOut, fail_rows}
 use Rattle.nm_rules.specs.Invariant.{is_clear}
 use Rattle.nm_rules.specs.Lost.{lost}
@@ -13,7 +15,7 @@ use Rattle.nm_rules.proofs.CauseLemmas.{none_holds, when_off}
 use Rattle.nm_calls.specs.AsAnswered.{answered}
 use Rattle.nm_calls.specs.CallsOut.{Calling, CallsOut}
 use Rattle.nm_moves.specs.Laws.{ActOnOneArray, CallsAreMadeAtTheirAnswers, Hold, MovesAct, NoneStops, Starts, concat}
-use Rattle.nm_moves.specs.Moves.{AnswersRead, AnswersWrite, AsksRead, AsksWrite, Begins, CallsOf, Claims, ComesLate, EndsWrite, Fails, Makes, Move, MoveOf, MovesRun, ReachesLeg, StepOf, StepsRun, StopsStripe, TakesAnswer, TakesLegOut, WriteEnds, unbelieved}
+use Rattle.nm_moves.specs.Moves.{AnswersRead, AnswersWrite, AsksRead, AsksWrite, Attaches, Begins, CallsOf, Claims, ComesLate, EndsWrite, Fails, Makes, Move, MoveOf, MovesRun, ReachesLeg, StepOf, StepsRun, StopsStripe, TakesAnswer, TakesLegOut, WriteEnds, unbelieved}
 use Rattle.nm_moves.specs.World.{AreAsAnswered, Came, Out, Reads, World, Writes, made}
 use Rattle.nm_moves.proofs.Carried.{begins-faces, claims-faces, reads-carry, were-lost, were-same, writes-lost, writes-same}
 use Rattle.nm_moves.proofs.FoundReads.{held, known-block}
@@ -47,6 +49,7 @@ module _ {L : Type 0} (type : LegType L) (is_honest : IsTrue type.honest) (old n
   believed (Begins block ds ticket) step calls = step
   believed (Claims ticket names) step calls = step
   believed (Fails leg) step calls = step
+  believed (Attaches leg) step calls = step
 
   known-write : (run leg block : ℕ) (blocks : List Block) (came : Came) (ends : WriteEnds) → EndsWrite unbelieved run leg block blocks came ends c d → TakesAnswer type (Writes run leg block blocks) came old new → IsKnown (AnswersWrite run leg block blocks came ends) c
   known-write run leg block blocks came ReachesLeg step a = tt
@@ -74,6 +77,7 @@ module _ {L : Type 0} (type : LegType L) (is_honest : IsTrue type.honest) (old n
   known (Begins block ds ticket) step calls = tt
   known (Claims ticket names) step calls = tt
   known (Fails leg) step calls = tt
+  known (Attaches leg) step calls = tt
 
   step-of : (move : Move) → MoveOf type move old new → Leaves answered move c d
   step-of move m = step-leaves answered refl c d s.keeps move (known move m.step m.calls) (believed move m.step m.calls)
@@ -97,6 +101,8 @@ module _ {L : Type 0} (type : LegType L) (is_honest : IsTrue type.honest) (old n
       by-same (Claims ticket names) step calls = hands-same type is_honest [] old new calls (stays-by type is_honest old new s _ step.0.after refl) s.same
       by-same (Fails leg) step calls = hands-same type is_honest [] old new calls (stays-by type is_honest old new s (lost leg c.stripe) step.0.after (lost-legs leg c.stripe)) s.same
 
+      by-same (Attaches leg) step calls = hands-same type is_honest [] old new calls (stays-by type is_honest old new s (after_attach c.stripe leg) step.1.stripe.after refl) s.same
+
       by-each : (move : Move) → StepOf unbelieved move c d → CallsOf type move old new → Each (IsKept type new.legs d) new.out
       by-each (AsksRead leg block count) step calls = asked-each type is_honest old new s leg block count step.1 calls
       by-each (AsksWrite run leg block) step calls = write-each type is_honest old new s run leg block step.0 step.1 calls
@@ -118,6 +124,8 @@ module _ {L : Type 0} (type : LegType L) (is_honest : IsTrue type.honest) (old n
           (reads-carry c d (ap (λ (n : CallsOut). n.tickets) step.1) (were-lost c.calls.reads d.calls.reads leg c.stripe.master (ap (λ (n : CallsOut). n.reads) step.1)) (stays-by type is_honest old new s (lost leg c.stripe) step.0.after (lost-legs leg c.stripe)))
           (writes-lost c d s.keeps leg c.stripe.legs (fails-attached leg step.0) step.0.after c.calls.writes Any (ap (λ (n : CallsOut). n.writes) step.1) (λ run to other out. out))
 
+      by-each (Attaches leg) step calls = joined-each type old new s leg step.0 step.1 calls
+
       by-apart : (move : Move) → StepOf unbelieved move c d → CallsOf type move old new → AreApart new.out
       by-apart (AsksRead leg block count) step calls = asked-apart type is_honest old new s leg block count step.1 calls
       by-apart (AsksWrite run leg block) step calls = write-apart type is_honest old new s run leg block step.0 step.1 calls
@@ -128,6 +136,7 @@ module _ {L : Type 0} (type : LegType L) (is_honest : IsTrue type.honest) (old n
       by-apart (Begins block ds ticket) step calls = none-apart type is_honest old new s calls
       by-apart (Claims ticket names) step calls = none-apart type is_honest old new s calls
       by-apart (Fails leg) step calls = none-apart type is_honest old new s calls
+      by-apart (Attaches leg) step calls = none-apart type is_honest old new s calls
 
       by-counts : (move : Move) → StepOf unbelieved move c d → CallsOf type move old new → CountsLate d new.out
       by-counts (AsksRead leg block count) step calls = asked-counts type is_honest old new s leg block count step.1 calls
@@ -143,6 +152,8 @@ module _ {L : Type 0} (type : LegType L) (is_honest : IsTrue type.honest) (old n
           subst (λ (os : List Out). CountsLate d os) (sym calls.out)
           (failed-counts type is_honest old new s leg c.stripe.legs step.0.after step.1 (both_ways (is_out (leg_state leg c.stripe)) (fails-attached leg step.0)))
 
+      by-counts (Attaches leg) step calls = joined-counts type old new s leg step.0 step.1 calls
+
 -- none stops the stripe: not the first, and none of the others
 none-first : (move : Move) (moves : List Move) → NoneStops (move ∷ moves) → NoneStops (move ∷ []) × NoneStops moves
 none-first (AsksRead leg block count) moves none = (tt, none)
@@ -156,6 +167,7 @@ none-first (AnswersWrite run leg block blocks came ComesLate) moves none = (tt, 
 none-first (Begins block ds ticket) moves none = (tt, none)
 none-first (Claims ticket names) moves none = (tt, none)
 none-first (Fails leg) moves none = (tt, none)
+none-first (Attaches leg) moves none = (tt, none)
 
 module _ {L : Type 0} (type : LegType L) (is_honest : IsTrue type.honest) where
   starts : (w : World L) → Starts type w → InStep type w

@@ -15,6 +15,8 @@ use Rattle.nm_rules.specs.Losing.{with_part}
 use Rattle.nm_rules.specs.RunRead.{marks_of_reads}
 use Rattle.nm_rules.specs.State.{StripeState, is_out, leg_state}
 use Rattle.nm_rules.proofs.ActsLemmas.{explained-stays}
+use Rattle.nm_rules.proofs.AttachLemmas.{attach-acts, attach-keeps, may_attach}
+use Rattle.nm_calls.proofs.SyncOutLemmas.{attaches_idle-has}
 use Rattle.nm_rules.proofs.ChunkLemmas.{copy-is}
 use Rattle.nm_rules.proofs.LegLemmas.{calls-before}
 use Rattle.nm_rules.proofs.RecordLemmas.{one_or_two}
@@ -38,7 +40,7 @@ use Rattle.nm_calls.proofs.ReadOutLemmas.{ends-with, ends_out-explained, ends_ou
 use Rattle.nm_calls.proofs.StepsOverLemmas.{begins_out-has, claims_out-has, goes_out-has}
 use Rattle.nm_calls.proofs.VoidLemmas.{fails_out-explained, fails_out-has, fails_out-keeps, taken-has}
 use Rattle.nm_moves.specs.Laws.{NoneStops, marks}
-use Rattle.nm_moves.specs.Moves.{AnswersRead, AnswersWrite, AsksRead, AsksWrite, Begins, Claims, ComesLate, EndsRead, EndsWrite, Fails, Finds, IsRefused, IsTakenOff, LateWriteOut, LosesLeg, Makes, Move, ReachesLeg, ReadEnds, StepOf, StopsStripe, TakesLegOut, WriteEnds}
+use Rattle.nm_moves.specs.Moves.{AnswersRead, AnswersWrite, AsksRead, AsksWrite, Attaches, Begins, Claims, ComesLate, EndsRead, EndsWrite, Fails, Finds, IsRefused, IsTakenOff, LateWriteOut, LosesLeg, Makes, Move, ReachesLeg, ReadEnds, StepOf, StopsStripe, TakesLegOut, WriteEnds}
 use Rattle.nm_moves.specs.World.{Came}
 
 -- a read is found under its own ticket
@@ -245,3 +247,15 @@ module _ {L : Type 0} (type : LegType L) (is_honest : IsTrue type.honest) (old n
     };
     explained = λ honest_is goes. fail-acts type old.stripe new.stripe k.stripe leg step.0 honest_is;
   }
+  step-leaves (Attaches leg) known step =
+      let a = step.1 in
+      let out = (may_attach old.stripe leg a.stripe.no_cause).out in
+      record {
+        keeps = record {
+          stripe = subst (λ (n : StripeState L). Keeps type n) (sym a.stripe.after) (attach-keeps type old.stripe leg step.0 k.stripe out);
+          calls = attaches_idle-has type old new leg k.stripe k.calls a;
+        };
+        explained = λ honest_is goes.
+            subst (λ (n : StripeState L). IsExplainedStep type.model [] old.stripe n) (sym a.stripe.after)
+            (record { events = []; marked = refl; acts = attach-acts type old.stripe leg step.0 k.stripe out });
+      }

@@ -1,5 +1,5 @@
 -- What is done while calls are out: steps of the stripe, which make none, and the making of calls.
-use Rattle.std.specs.Prelude.{◌≡◌, ℕ, true, false, List, [], ◌∷◌, ◌++◌, Some}
+use Rattle.std.specs.Prelude.{◌≡◌, ℕ, ◌<◌, true, false, List, [], ◌∷◌, ◌++◌, Some}
 use Rattle.std.specs.Prelude.{length, map, if◌then◌else◌}
 use Rattle.nm_replay.specs.declared.block.Block.{Block}
 use Rattle.nm_fanout.specs.declared.record_data.RecordData.{RecordData}
@@ -18,6 +18,7 @@ use Rattle.nm_calls.specs.Answers.{ReachesOut, calls_lost, read_answered, return
 use Rattle.nm_calls.specs.Asking.{AsksRead as AsksToRead, AsksWrite as AsksToWrite}
 use Rattle.nm_calls.specs.Asking.{next_read}
 use Rattle.nm_calls.specs.CallsOut.{Calling, find_read, is_out_on, is_read_on}
+use Rattle.nm_calls.specs.Syncing.{AttachesOut}
 use Rattle.nm_moves.specs.World.{Call, Came, Out, Reads, World, Writes, as_answered, as_it_is}
 use Rattle.nm_moves.specs.World.{made, unmade, writes_at}
 
@@ -49,6 +50,7 @@ pub data Move : Type 0 where
   Begins : (block : ℕ) → List RecordData → (ticket : ℕ) → Move
   Claims : (ticket : ℕ) → EntryNames → Move
   Fails : (leg : ℕ) → Move
+  Attaches : (leg : ℕ) → Move
 
 -- a read that is out is only taken off
 pub record TakesOff {L : Type 0} (ticket : ℕ) (old new : Calling L) : Type 0 where
@@ -107,6 +109,7 @@ StepOf type (Claims ticket names) old new =
     ClaimsRun old.stripe new.stripe ticket names × (new.calls ≡ old.calls)
 StepOf type (Fails leg) old new =
     GoesOut old.stripe new.stripe leg × (new.calls ≡ calls_lost leg old.stripe old.calls)
+StepOf type (Attaches leg) old new = (leg < length old.stripe.legs) × AttachesOut old new leg
 
 -- the call is made at its leg
 abbrev pub IsMade : {L : Type 0} → LegType L → Call → Came → (old new : List L) → Type 0
@@ -165,6 +168,7 @@ CallsOf type (AnswersWrite run leg block blocks came ends) old new =
 CallsOf type (Begins block ds ticket) old new = HandsOut [] old new
 CallsOf type (Claims ticket names) old new = HandsOut [] old new
 CallsOf type (Fails leg) old new = HandsOut [] old new
+CallsOf type (Attaches leg) old new = HandsOut [] old new
 
 -- legs as answered, of which a step believes nothing
 abbrev pub unbelieved : LegType Leg
