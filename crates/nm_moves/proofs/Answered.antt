@@ -16,13 +16,13 @@ use Rattle.nm_calls.specs.Answers.{calls_lost, read_answered, run_answered, writ
 use Rattle.nm_calls.specs.AsAnswered.{KeepsCalls, answered}
 use Rattle.nm_calls.specs.declared.read_out.ReadOut.{ReadOut}
 use Rattle.nm_calls.specs.declared.write_out.WriteOut.{WriteOut}
-use Rattle.nm_calls.specs.CallsOut.{Calling, CallsOut, LegCalls, count_out, find_read, without_write}
+use Rattle.nm_calls.specs.CallsOut.{Calling, SyncOut, find_sync, CallsOut, LegCalls, count_out, find_read, without_write}
 use Rattle.nm_calls.specs.HasCalls.{IsStanding}
 use Rattle.nm_calls.proofs.ReadEndLemmas.{among}
 use Rattle.nm_calls.proofs.VoidLemmas.{taken-has}
 use Rattle.nm_calls.proofs.WriteLostLemmas.{returned-has}
-use Rattle.nm_moves.specs.Moves.{ComesLate, EndsRead, EndsWrite, Finds, IsRefused, IsTakenOff, LosesLeg, ReachesLeg, ReadEnds, StopsStripe, TakesAnswer, TakesLegOut, WriteEnds, unbelieved}
-use Rattle.nm_moves.specs.World.{Call, Came, Out, Reads, World, Writes, made}
+use Rattle.nm_moves.specs.Moves.{AnswersRead, AnswersWrite, Move, ComesLate, EndsRead, EndsWrite, Finds, IsRefused, IsTakenOff, LosesLeg, ReachesLeg, ReadEnds, StopsStripe, TakesAnswer, TakesLegOut, WriteEnds, unbelieved}
+use Rattle.nm_moves.specs.World.{Call, Came, Out, Reads, Syncs, World, Writes, made}
 use Rattle.nm_moves.proofs.Carried.{WereOut, push-clear, push-faces, push-states, stood, were-lost, were-over, were-same, writes-lost, writes-returned, writes-same}
 use Rattle.nm_moves.proofs.Faces.{faces}
 use Rattle.nm_moves.proofs.FoundReads.{CarriesReads}
@@ -35,7 +35,7 @@ use Rattle.nm_moves.proofs.Steps.{own-ticket}
 use Rattle.nm_moves.proofs.WriteAnswers.{not-gone, write-stays}
 
 -- the writes of a leg that is attached are in time
-out-each : {L : Type 0} (type : LegType L) (legs : List L) (c : Calling Leg) (leg : ℕ) (ws : List WriteOut) (Other : ℕ → ℕ → Type 0) → (IsGone leg c → ⊥)
+pub out-each : {L : Type 0} (type : LegType L) (legs : List L) (c : Calling Leg) (leg : ℕ) (ws : List WriteOut) (Other : ℕ → ℕ → Type 0) → (IsGone leg c → ⊥)
     → ((r to : ℕ) → Other r to → to ≡ leg → list_any (is_of r leg) c.calls.writes ≡ true → list_any (is_of r leg) ws ≡ true)
     → (os : List Out) → Each (λ o. OtherThan Other o.call) os → Each (IsKept type legs c) os → Each (λ o. OutIf leg ws o.call) os
 out-each type legs c leg ws Other attached stay [] others all = tt
@@ -43,13 +43,14 @@ out-each type legs c leg ws Other attached stay (o ∷ os) others all = (one o.c
   where
     one : (call : Call) (came : Option Came) → OtherThan Other call → kept type legs c call came → OutIf leg ws call
     one (Reads x) came other k = tt
+    one (Syncs y) came other k = tt
     one (Writes run to block blocks) came other k = λ own.
         ⊎_elim
         (λ w. stay run to other own (subst (λ (i : ℕ). list_any (is_of run i) c.calls.writes ≡ true) own w.0.out))
         (λ late. absurd (attached (subst (λ (i : ℕ). IsGone i c) own late.gone)))
         k
 
-not-so : (b : Bool) → (b ≡ true → ⊥) → b ≡ false
+pub not-so : (b : Bool) → (b ≡ true → ⊥) → b ≡ false
 not-so true no_way = absurd (no_way refl)
 not-so false no_way = refl
 
@@ -67,11 +68,14 @@ module _ {L : Type 0} (type : LegType L) (is_honest : IsTrue type.honest) (old n
   abbrev d : Calling Leg
   d = new.calling
 
+  gone-back : (leg : ℕ) (legs : List Leg) → d.stripe ≡ lost leg (record c.stripe { legs = legs }) → (i : ℕ) → i ≢ leg → IsGone i d → IsGone i c
+  gone-back leg legs stripe i ne gone = lost-was leg (record c.stripe { legs = legs }) i ne (subst (λ (t : StripeState Leg). is_out (leg_state i t) ≡ true) stripe gone)
+
   -- a leg goes out, with these calls left, and these out
-  lost-counted : (leg : ℕ) (legs : List Leg) (mid : CallsOut) (os : List Out) → d.stripe ≡ lost leg (record c.stripe { legs = legs }) → d.calls ≡ calls_lost leg c.stripe mid
+  pub lost-counted : (leg : ℕ) (mid : CallsOut) (os : List Out) → ((i : ℕ) → i ≢ leg → IsGone i d → IsGone i c) → d.calls ≡ calls_lost leg c.stripe mid
       → AreApart os → Each (λ o. OutIf leg mid.writes o.call) os → ((i : ℕ) (l : LegCalls) → slice_get mid.legs i ≡ Some l → count_out i mid ≤ l.out)
       → ((i : ℕ) (l : LegCalls) → IsGone i c → leg ≢ i → slice_get mid.legs i ≡ Some l → CountsAs c.calls mid i (writes_on i old.out) (writes_on i os) l) → CountsLate d os
-  lost-counted leg legs mid os stripe calls apart out counted before =
+  lost-counted leg mid os back calls apart out counted before =
       counts-by c d old.out os s.counted (λ i l at gone.
       let at_mid : slice_get (calls_lost leg c.stripe mid).legs i ≡ Some l = ap (λ (n : CallsOut). slice_get n.legs i) (sym calls) ∙ at in
       let count : count_out i d.calls ≡ count_out i (calls_lost leg c.stripe mid) = ap (λ (n : CallsOut). count_out i n) calls in
@@ -82,7 +86,7 @@ module _ {L : Type 0} (type : LegType L) (is_honest : IsTrue type.honest) (old n
       let goal_here : count_out leg d.calls + writes_on leg os ≤ l.out = let e : count_out leg d.calls ≡ count_out leg (calls_lost leg c.stripe mid) = ap (λ (n : CallsOut). count_out leg n) calls in omega (arith, most, e) in
       inr (subst (λ (n : ℕ). count_out n d.calls + writes_on n os ≤ l.out) own goal_here))
       (λ ne.
-      let was : IsGone i c = lost-was leg (record c.stripe { legs = legs }) i (λ e. ne (sym e)) (subst (λ (t : StripeState Leg). is_out (leg_state i t) ≡ true) stripe gone) in
+      let was : IsGone i c = back i (λ e. ne (sym e)) gone in
       let second = lost-counts leg c.stripe mid i (writes_on i os) l at_mid in
       let first = before i second.was was ne second.place in
       inl (was, record { was = first.was; place = first.place; less = omega (arith, first.less, second.less, count) }))
@@ -91,13 +95,13 @@ module _ {L : Type 0} (type : LegType L) (is_honest : IsTrue type.honest) (old n
   -- a leg is taken out
   pub failed-counts : (leg : ℕ) (legs : List Leg) → d.stripe ≡ lost leg (record c.stripe { legs = legs }) → d.calls ≡ calls_lost leg c.stripe c.calls → (IsGone leg c → ⊥) → CountsLate d old.out
   failed-counts leg legs stripe calls attached =
-      lost-counted leg legs c.calls old.out stripe calls s.apart
+      lost-counted leg c.calls old.out (gone-back leg legs stripe) calls s.apart
       (out-each type old.legs c leg c.calls.writes Any attached (λ r to other own out. out) old.out (any-each old.out) s.each)
       s.keeps.calls.counted
       (λ i l gone ne at. record { was = l; place = at; less = omega arith })
 
   -- a read is answered
-  module _ (x : ReadOut) (came : Came) (ends : ReadEnds) (step : EndsRead unbelieved x.ticket came ends c d) (a : TakesAnswer type (Reads x) came old new) where
+  module _ (x : ReadOut) (came : Came) (ends : ReadEnds) (step : EndsRead unbelieved x.ticket came ends c d) (a : TakesAnswer type (Reads x) came (AnswersRead x came ends) old new) where
     read-writes : CarriesWrites Any c d
     read-writes = by ends step
       where
@@ -142,7 +146,7 @@ module _ {L : Type 0} (type : LegType L) (is_honest : IsTrue type.honest) (old n
         by LosesLeg t =
             let y = t.0 in
             let attached = counts-attached c s.keeps y t.3.out t.3.counts in
-            lost-counted y.leg d.stripe.legs (read_answered y c.calls) (a.front ++ a.back) t.3.stripe t.3.calls others-apart
+            lost-counted y.leg (read_answered y c.calls) (a.front ++ a.back) (gone-back y.leg d.stripe.legs t.3.stripe) t.3.calls others-apart
             (out-each type old.legs c y.leg c.calls.writes Any attached (λ r to other own out. out) (a.front ++ a.back) (any-each (a.front ++ a.back)) others-kept)
             (taken-has answered y c s.keeps.calls t.3.out).counted
             (λ i l gone ne at.
@@ -157,13 +161,13 @@ module _ {L : Type 0} (type : LegType L) (is_honest : IsTrue type.honest) (old n
     read-each =
         subst (λ (ls : List L). Each (IsKept type ls d) new.out) (sym a.legs)
         (subst (λ (os : List Out). Each (IsKept type old.legs d) os) (sym a.is)
-        (still type old.legs Any c d (ends-carry type old new s x came a ends step) read-writes (a.front ++ a.back) (any-each (a.front ++ a.back)) others-kept))
+        (still type old.legs Any c d (ends-carry type old new s x came ends a ends step) read-writes (a.front ++ a.back) (any-each (a.front ++ a.back)) others-kept))
 
-  pub answer-apart : (call : Call) (came : Came) → TakesAnswer type call came old new → AreApart new.out
-  answer-apart call came a = subst (λ (os : List Out). AreApart os) (sym a.is) (apart-other a.front (made call came) a.back (subst (λ (os : List Out). AreApart os) a.was s.apart))
+  pub answer-apart : (call : Call) (came : Came) (move : Move) → TakesAnswer type call came move old new → AreApart new.out
+  answer-apart call came move a = subst (λ (os : List Out). AreApart os) (sym a.is) (apart-other a.front (made call came) a.back (subst (λ (os : List Out). AreApart os) a.was s.apart))
 
   -- a write is answered
-  module _ (run leg block : ℕ) (blocks : List Block) (came : Came) (ends : WriteEnds) (step : EndsWrite unbelieved run leg block blocks came ends c d) (a : TakesAnswer type (Writes run leg block blocks) came old new) where
+  module _ (run leg block : ℕ) (blocks : List Block) (came : Came) (ends : WriteEnds) (step : EndsWrite unbelieved run leg block blocks came ends c d) (a : TakesAnswer type (Writes run leg block blocks) came (AnswersWrite run leg block blocks came ends) old new) where
     abbrev Other : ℕ → ℕ → Type 0
     Other r l = run ≡ r → leg ≡ l → ⊥
 
@@ -186,14 +190,24 @@ module _ {L : Type 0} (type : LegType L) (is_honest : IsTrue type.honest) (old n
         by StopsStripe t = ap (λ (n : CallsOut). n.tickets) t.1.calls
         by ComesLate t = ap (λ (n : CallsOut). n.tickets) t.calls
 
+    same-syncs : d.calls.syncs ≡ c.calls.syncs
+    same-syncs = by ends step
+      where
+        by : (e : WriteEnds) → EndsWrite unbelieved run leg block blocks came e c d → d.calls.syncs ≡ c.calls.syncs
+        by ReachesLeg t = ap (λ (n : CallsOut). n.syncs) t.1.calls
+        by TakesLegOut t = ap (λ (n : CallsOut). n.syncs) t.1.calls
+        by StopsStripe t = ap (λ (n : CallsOut). n.syncs) t.1.calls
+        by ComesLate t = ap (λ (n : CallsOut). n.syncs) t.calls
+
     answer-reads : CarriesReads c d
     answer-reads = record {
       tickets = let e = tickets in omega (arith, e);
       reads = λ t y low at. were t y at;
+      syncs = λ t y low at. subst (λ (xs : List SyncOut). find_sync t xs ≡ Some y) same-syncs at;
       stays = λ t k y stands.
           let own : y.ticket ≡ t = own-ticket t y d.calls.reads stands.out in
           let there : IsStanding y.ticket y k d.calls = record { out = ap (λ (n : ℕ). find_read n d.calls.reads) own ∙ stands.out; counts = stands.counts; inside = stands.inside } in
-          write-stays type old new s run leg block blocks came a y k (stood c d were y.ticket k y there);
+          write-stays type old new s run leg block blocks came ends a y k (stood c d were y.ticket k y there);
     }
 
     answer-writes : CarriesWrites Other c d
@@ -204,7 +218,7 @@ module _ {L : Type 0} (type : LegType L) (is_honest : IsTrue type.honest) (old n
             writes-returned c d (push-states unbelieved c.stripe d.stripe run leg t.1.stripe) (λ l k not_clear. push-clear unbelieved c.stripe d.stripe run leg t.1.stripe l k ∙ not_clear) run leg (ap (λ (n : CallsOut). n.writes) t.1.calls)
             (push-faces unbelieved c.stripe d.stripe run leg t.1.stripe)
         by TakesLegOut t =
-            writes-lost c d s.keeps leg d.stripe.legs (not-so (is_out (leg_state leg c.stripe)) (not-gone type old new s run leg block blocks came a false d.stripe.legs t.1.out t.1.stripe.called)) t.1.stripe.after (without_write run leg c.calls.writes) Other (ap (λ (n : CallsOut). n.writes) t.1.calls)
+            writes-lost c d s.keeps leg d.stripe.legs (not-so (is_out (leg_state leg c.stripe)) (not-gone type old new s run leg block blocks came ends a false d.stripe.legs t.1.out t.1.stripe.called)) t.1.stripe.after (without_write run leg c.calls.writes) Other (ap (λ (n : CallsOut). n.writes) t.1.calls)
             (λ r l other out. out-but_call r l run leg c.calls.writes (λ e f. other (sym e) (sym f)) out)
         by StopsStripe t =
             writes-returned c d (ap (λ (n : StripeState Leg). n.states) t.1.stripe.after) (λ l k not_clear. ap (λ (n : StripeState Leg). is_clear l k n) t.1.stripe.after ∙ not_clear) run leg (ap (λ (n : CallsOut). n.writes) t.1.calls)
@@ -216,6 +230,7 @@ module _ {L : Type 0} (type : LegType L) (is_honest : IsTrue type.honest) (old n
 
     other-of : (o : Call) → Differ (Writes run leg block blocks) o → OtherThan Other o
     other-of (Reads y) d = tt
+    other-of (Syncs y) d = tt
     other-of (Writes r l first more) d = d
 
     others-differ : Each (λ o. OtherThan Other o.call) (a.front ++ a.back)
@@ -247,11 +262,11 @@ module _ {L : Type 0} (type : LegType L) (is_honest : IsTrue type.honest) (old n
         by : (e : WriteEnds) → EndsWrite unbelieved run leg block blocks came e c d → CountsLate d (a.front ++ a.back)
         by ReachesLeg t =
             attached-counts (run_answered run leg t.1.stripe.called.block c.stripe c.calls) t.1.calls (push-states unbelieved c.stripe d.stripe run leg t.1.stripe)
-            (not-gone type old new s run leg block blocks came a true d.stripe.legs t.1.out t.1.stripe.called)
+            (not-gone type old new s run leg block blocks came ends a true d.stripe.legs t.1.out t.1.stripe.called)
             (λ i n l ne at. run-counts run leg t.1.stripe.called.block c.stripe c.calls i n l ne at)
         by TakesLegOut t =
-            let attached = not-gone type old new s run leg block blocks came a false d.stripe.legs t.1.out t.1.stripe.called in
-            lost-counted leg d.stripe.legs (write_returned run leg c.calls) (a.front ++ a.back) t.1.stripe.after t.1.calls rest-apart
+            let attached = not-gone type old new s run leg block blocks came ends a false d.stripe.legs t.1.out t.1.stripe.called in
+            lost-counted leg (write_returned run leg c.calls) (a.front ++ a.back) (gone-back leg d.stripe.legs t.1.stripe.after) t.1.calls rest-apart
             (out-each type old.legs c leg (without_write run leg c.calls.writes) Other attached (λ r to other own out. out-but_call r leg run leg c.calls.writes (λ e f. other (sym e) (sym own)) out) (a.front ++ a.back) others-differ rest-kept)
             (returned-has answered run leg c s.keeps.calls t.1.out).counted
             (λ i l gone ne at.
@@ -259,7 +274,7 @@ module _ {L : Type 0} (type : LegType L) (is_honest : IsTrue type.honest) (old n
             record { was = n.was; place = n.place; less = omega (arith, n.less, one-fewer i) })
         by StopsStripe t =
             attached-counts (write_returned run leg c.calls) t.1.calls (ap (λ (n : StripeState Leg). n.states) t.1.stripe.after)
-            (not-gone type old new s run leg block blocks came a false d.stripe.legs t.1.out t.1.stripe.called)
+            (not-gone type old new s run leg block blocks came ends a false d.stripe.legs t.1.out t.1.stripe.called)
             (λ i n l ne at. returned-counts run leg c.calls i n l ne at)
         by ComesLate t =
             counts-by c d old.out (a.front ++ a.back) s.counted (λ i l at gone.

@@ -1,5 +1,5 @@
 -- Calls are asked for, or nothing is handed out: what holds while calls are out holds still.
-use Rattle.std.proofs.Common.{◌≡◌, ◌≢◌, ⊎_elim, ℕ, ◌==◌, Bool, true, false, IsTrue, List, [], ◌∷◌, ◌++◌, None, Option, cond, length, map, refl, sym, ap, ◌∙◌, subst, arith, inl, ne_eqb}
+use Rattle.std.proofs.Common.{◌≡◌, ◌≢◌, ⊎_elim, ℕ, ◌==◌, Bool, true, false, IsTrue, List, [], ◌∷◌, ◌++◌, None, Option, cond, length, map, refl, sym, ap, ◌∙◌, subst, arith, inl, ne_eqb, ◌+◌, eq-eqb, slice_get, Some}
 use Rattle.std.proofs.lemmas.Bool.{both_ways}
 use Rattle.nm_choice.specs.declared.leg_state.LegState.{LegState}
 use Rattle.nm_leg.specs.Leg.{Leg, LegType}
@@ -17,18 +17,23 @@ use Rattle.nm_calls.specs.Asking.{AsksRead as AsksToRead, AsksWrite as AsksToWri
 use Rattle.nm_calls.specs.AsAnswered.{answered}
 use Rattle.nm_calls.specs.declared.read_out.ReadOut.{ReadOut}
 use Rattle.nm_calls.specs.declared.write_out.WriteOut.{WriteOut}
-use Rattle.nm_calls.specs.CallsOut.{Calling, is_out_on, is_read_on, without_write}
-use Rattle.nm_calls.specs.HasCalls.{ask_write, hand_out_read, hand_out_write}
-use Rattle.nm_calls.proofs.ApartLemmas.{found-or-old}
+use Rattle.nm_calls.specs.CallsOut.{Calling, LegCalls, SyncFor, SyncOut, find_sync, is_out_on, is_read_on, without_write}
+use Rattle.nm_calls.specs.Syncing.{AsksSync as AsksToSync, next_sync}
+use Rattle.nm_calls.proofs.ReturnedLemmas.{on-leg_at}
+use Rattle.std.proofs.lemmas.List.Sums.{sum_by-cons}
+use Rattle.std.proofs.lemmas.Option.{same_Some}
+use Rattle.nm_rules.proofs.RecordLemmas.{one_or_two}
+use Rattle.nm_calls.specs.HasCalls.{ask_write, hand_out_read, hand_out_write, counted_on, hand_out_sync, with_none_left}
+use Rattle.nm_calls.proofs.ApartLemmas.{counted-at, found-or-old}
 use Rattle.nm_calls.proofs.VoidingLemmas.{was-same}
 use Rattle.nm_moves.specs.Moves.{HandsOut, asked_write}
-use Rattle.nm_moves.specs.World.{Call, Came, Out, Reads, World, Writes, unmade}
+use Rattle.nm_moves.specs.World.{Call, Came, Out, Reads, Syncs, World, Writes, unmade}
 use Rattle.nm_moves.proofs.Carried.{reads-carry, were-same, writes-same}
 use Rattle.nm_moves.proofs.Faces.{faces, faces-owed}
-use Rattle.nm_moves.proofs.FoundReads.{CarriesReads, ReadKept, held}
+use Rattle.nm_moves.proofs.FoundReads.{CarriesReads, ReadKept, SyncKept, held}
 use Rattle.nm_moves.proofs.InTimes.{CarriesWrites, IsGone, out-own, out-with_more}
 use Rattle.nm_moves.proofs.Kept.{Any, AreApart, CountsLate, Differ, InStep, IsKept, any-each, kept, one_on, still, writes_on}
-use Rattle.nm_moves.proofs.LateCounts.{counts-by, counts-same, handed-counts, waiting-counts}
+use Rattle.nm_moves.proofs.LateCounts.{CountsAs, counts-by, counts-same, handed-counts, waiting-counts}
 use Rattle.nm_moves.proofs.Outs.{Each, each-append}
 use Rattle.nm_moves.proofs.LateCounts.{read-counts}
 
@@ -49,6 +54,7 @@ handed-reads x c next = record {
       (λ same. absurd (let e : ⊥ = omega (arith, same.1, next, low) in e))
       (λ was. was-same t y c.calls.reads was)
       (found-or-old x y t c.calls.reads at);
+  syncs = λ t y low at. at;
   stays = λ t k y stands. refl;
 }
 
@@ -134,6 +140,7 @@ module _ {L : Type 0} (type : LegType L) (is_honest : IsTrue type.honest) (old n
           where
             one : (call : Call) → Differ (Reads x) call
             one (Reads y) = tt
+            one (Syncs y) = tt
             one (Writes run to first blocks) = tt
 
     -- the leg that it takes is attached
@@ -180,8 +187,8 @@ module _ {L : Type 0} (type : LegType L) (is_honest : IsTrue type.honest) (old n
     write-reads : CarriesReads c d
     write-reads =
         by-waiting (λ n cs. CarriesReads c n)
-        (reads-carry c (ask_write run leg c) refl (were-same c.calls.reads c.calls.reads refl) (λ j. refl))
-        (reads-carry c (hand_out_write run leg c) refl (were-same c.calls.reads c.calls.reads refl) (λ j. refl))
+        (reads-carry c (ask_write run leg c) refl (were-same c.calls.reads c.calls.reads refl) (λ t y at. at) (λ j. refl))
+        (reads-carry c (hand_out_write run leg c) refl (were-same c.calls.reads c.calls.reads refl) (λ t y at. at) (λ j. refl))
 
     write-writes : CarriesWrites Any c d
     write-writes =
@@ -204,6 +211,7 @@ module _ {L : Type 0} (type : LegType L) (is_honest : IsTrue type.honest) (old n
 
     differs : (o : Call) (came : Option Came) → kept type old.legs c o came → Differ (Writes run leg asks.block (written_by rs)) o
     differs (Reads y) came h = tt
+    differs (Syncs y) came h = tt
     differs (Writes other to first more) came h = λ e f.
         ⊎_elim
         (λ w. both_ways (is_out_on leg run c.calls) asks.once (subst (λ (n : ℕ). is_out_on n run c.calls ≡ true) (sym f) (subst (λ (n : ℕ). is_out_on to n c.calls ≡ true) (sym e) w.0.out)))
@@ -246,3 +254,77 @@ module _ {L : Type 0} (type : LegType L) (is_honest : IsTrue type.honest) (old n
 
       pub write-apart : AreApart new.out
       write-apart = subst (λ (os : List Out). AreApart os) (sym out-is) fresh-apart
+
+  -- a sync is asked for
+  module _ (leg : ℕ) (asked_for : SyncFor) (counts : LegCalls) (asks : AsksToSync c d leg asked_for) (at : asks.counts ≡ counts) (h : HandsOut (Syncs (next_sync leg asked_for counts c.calls) ∷ []) old new) where
+    abbrev sync : SyncOut
+    sync = next_sync leg asked_for asks.counts c.calls
+
+    abbrev sent : Calling Leg
+    sent = hand_out_sync sync c
+
+    sent-reads : CarriesReads c sent
+    sent-reads = record {
+      tickets = omega arith;
+      reads = λ t y low found. was-same t y c.calls.reads found;
+      syncs = λ t y low found.
+          ap (λ (b : Bool). cond b (Some sync) (find_sync t c.calls.syncs)) (sym (ne_eqb sync.ticket t (λ e. omega (arith, low, e)))) ∙ found;
+      stays = λ t k y stands. refl;
+    }
+
+    sent-kept : SyncKept sent sync
+    sent-kept = record {
+      low = omega arith;
+      known = λ y found. sym (same_Some sync y (ap (λ (b : Bool). cond b (Some sync) (find_sync sync.ticket c.calls.syncs)) (sym (eq-eqb sync.ticket sync.ticket refl)) ∙ found));
+    }
+
+    sent-writes : CarriesWrites Any c sent
+    sent-writes = writes-same c sent refl (λ l k not_clear. not_clear) refl (λ run to first blocks w. refl)
+
+    sent-counts : CountsLate sent (unmade (Syncs sync) ∷ old.out)
+    sent-counts = counts-by c sent old.out (unmade (Syncs sync) ∷ old.out) s.counted (λ i l found gone. inl (gone, sync-counted i (writes_on i old.out) l found))
+      where
+        sync-counted : (i n : ℕ) (l : LegCalls) → slice_get sent.calls.legs i ≡ Some l → CountsAs c.calls sent.calls i n (0 + n) l
+        sync-counted i n l found =
+            let over = on-leg_at with_none_left (λ m. refl) leg i (counted_on leg c.calls.legs) l found in
+            let from = counted-at leg i c.calls.legs over.was over.place in
+            let own : SyncOut → ℕ = λ z. cond (z.leg == i) 1 0 in
+            let step = sum_by-cons own sync c.calls.syncs in
+            ⊎_elim
+            (λ is.
+            let one : own sync ≡ 1 = ap (λ (b : Bool). cond {A = ℕ} b 1 0) (eq-eqb leg i is) in
+            record { was = from.was; place = from.place; less = omega (arith, step, one, from.here is, over.same) })
+            (λ ne.
+            let none : own sync ≡ 0 = ap (λ (b : Bool). cond {A = ℕ} b 1 0) (ne_eqb leg i ne) in
+            record { was = from.was; place = from.place; less = omega (arith, step, none, from.least, over.same) })
+            (one_or_two leg i)
+
+    sync-out : new.out ≡ unmade (Syncs sync) ∷ old.out
+    sync-out = h.out ∙ ap (λ (n : LegCalls). unmade (Syncs (next_sync leg asked_for n c.calls)) ∷ old.out) (sym at)
+
+    pub asked_sync-stays : (j : ℕ) → held d.stripe.legs j ≡ held c.stripe.legs j
+    asked_sync-stays j = ap (λ (n : Calling Leg). held n.stripe.legs j) asks.after
+
+    pub asked_sync-each : Each (IsKept type new.legs d) new.out
+    asked_sync-each =
+        subst (λ (ls : List L). Each (IsKept type ls d) new.out) (sym h.legs)
+        (subst (λ (os : List Out). Each (IsKept type old.legs d) os) (sym sync-out)
+        (subst (λ (n : Calling Leg). Each (IsKept type old.legs n) (unmade (Syncs sync) ∷ old.out)) (sym asks.after)
+        (sent-kept, still type old.legs Any c sent sent-reads sent-writes old.out (any-each old.out) s.each)))
+
+    pub asked_sync-counts : CountsLate d new.out
+    asked_sync-counts =
+        subst (λ (os : List Out). CountsLate d os) (sym sync-out)
+        (subst (λ (n : Calling Leg). CountsLate n (unmade (Syncs sync) ∷ old.out)) (sym asks.after) sent-counts)
+
+    pub asked_sync-apart : AreApart new.out
+    asked_sync-apart = subst (λ (os : List Out). AreApart os) (sym sync-out) (all-differ_sync old.out, s.apart)
+      where
+        all-differ_sync : (os : List Out) → Each (λ p. Differ (Syncs sync) p.call) os
+        all-differ_sync [] = tt
+        all-differ_sync (o ∷ os) = (one o.call, all-differ_sync os)
+          where
+            one : (call : Call) → Differ (Syncs sync) call
+            one (Reads y) = tt
+            one (Syncs y) = tt
+            one (Writes run to first blocks) = tt

@@ -25,7 +25,7 @@ use Rattle.nm_calls.specs.Answers.{reads_over, voided_without}
 use Rattle.nm_calls.specs.AsAnswered.{KeepsCalls, answered}
 use Rattle.nm_calls.specs.declared.read_out.ReadOut.{ReadOut}
 use Rattle.nm_calls.specs.declared.write_out.WriteOut.{WriteOut}
-use Rattle.nm_calls.specs.CallsOut.{Calling, find_read, is_out_on, voided_at, without_read, without_write}
+use Rattle.nm_calls.specs.CallsOut.{Calling, SyncOut, find_sync, find_read, is_out_on, voided_at, without_read, without_write}
 use Rattle.nm_calls.specs.HasCalls.{IsStanding}
 use Rattle.nm_calls.proofs.ReturnedLemmas.{out-known}
 use Rattle.nm_calls.proofs.TakenLemmas.{find-taken}
@@ -52,6 +52,9 @@ own-all run (r ∷ rs) =
 -- each read that is out was out
 abbrev pub WereOut : List ReadOut → List ReadOut → Type 0
 WereOut old new = (t : ℕ) (y : ReadOut) → find_read t new ≡ Some y → WasOut t y old
+
+pub syncs-same : (old new : List SyncOut) → new ≡ old → (t : ℕ) (y : SyncOut) → find_sync t new ≡ Some y → find_sync t old ≡ Some y
+syncs-same old new is t y at = subst (λ (xs : List SyncOut). find_sync t xs ≡ Some y) is at
 
 module _ (old new : List ReadOut) where
   pub were-same : new ≡ old → WereOut old new
@@ -82,10 +85,11 @@ module _ (old new : Calling Leg) where
       let w = were t x s.out in
       record { out = w.found ∙ ap (λ (z : ReadOut). Some z) (sym (was-counts t x old.calls.reads w s.counts)); counts = s.counts; inside = s.inside }
 
-  pub reads-carry : new.calls.tickets ≡ old.calls.tickets → WereOut old.calls.reads new.calls.reads → ((j : ℕ) → held new.stripe.legs j ≡ held old.stripe.legs j) → CarriesReads old new
-  reads-carry tickets were stays = record {
+  pub reads-carry : new.calls.tickets ≡ old.calls.tickets → WereOut old.calls.reads new.calls.reads → ((t : ℕ) (y : SyncOut) → find_sync t new.calls.syncs ≡ Some y → find_sync t old.calls.syncs ≡ Some y) → ((j : ℕ) → held new.stripe.legs j ≡ held old.stripe.legs j) → CarriesReads old new
+  reads-carry tickets were synced stays = record {
     tickets = omega (arith, tickets);
     reads = λ t y low at. were t y at;
+    syncs = λ t y low at. synced t y at;
     stays = λ t k x stands. ap (λ (xs : List Block). slice_get xs k) (stays x.leg);
   }
 

@@ -11,7 +11,7 @@ use Rattle.nm_rules.proofs.DurableLegLemmas.{calls-durable_after, calls-durable_
 use Rattle.nm_rules.proofs.LegLemmas.{calls-after, calls-before}
 use Rattle.nm_calls.specs.AsAnswered.{answered}
 use Rattle.nm_calls.specs.declared.read_out.ReadOut.{ReadOut}
-use Rattle.nm_calls.specs.CallsOut.{Calling, find_read, voided}
+use Rattle.nm_calls.specs.CallsOut.{Calling, SyncOut, find_sync, find_read, voided}
 use Rattle.nm_calls.specs.HasCalls.{IsStanding}
 use Rattle.nm_calls.proofs.ReadEndLemmas.{among}
 use Rattle.nm_calls.proofs.ReachedOutLemmas.{true-is}
@@ -49,10 +49,17 @@ pub record ReadKept (c : Calling Leg) (x : ReadOut) (came : Option Came) : Type 
   pub known : (y : ReadOut) → find_read x.ticket c.calls.reads ≡ Some y → (y ≡ x) ⊎ (y ≡ voided x)
   pub found : FoundIf c x came
 
--- a step by which no read that is out changes but to be void, and no leg where a read counts
+-- the stripe knows the sync as it was handed out, until it is answered
+pub record SyncKept (c : Calling Leg) (s : SyncOut) : Type 0 where
+  pub low : s.ticket < c.calls.tickets
+  pub known : (y : SyncOut) → find_sync s.ticket c.calls.syncs ≡ Some y → y ≡ s
+
+-- a step by which no read that is out changes but to be void, no sync that is out changes, and no
+-- leg where a read counts
 pub record CarriesReads (old new : Calling Leg) : Type 0 where
   pub tickets : old.calls.tickets ≤ new.calls.tickets
   pub reads : (t : ℕ) (y : ReadOut) → t < old.calls.tickets → find_read t new.calls.reads ≡ Some y → WasOut t y old.calls.reads
+  pub syncs : (t : ℕ) (y : SyncOut) → t < old.calls.tickets → find_sync t new.calls.syncs ≡ Some y → find_sync t old.calls.syncs ≡ Some y
   pub stays : (t k : ℕ) (x : ReadOut) → IsStanding t x k new.calls → slice_get (held new.stripe.legs x.leg) k ≡ slice_get (held old.stripe.legs x.leg) k
 
 module _ (old new : Calling Leg) (q : CarriesReads old new) (x : ReadOut) where
@@ -83,6 +90,12 @@ module _ (old new : Calling Leg) (q : CarriesReads old new) (x : ReadOut) where
       by : (o : Option Came) → FoundIf old x o → FoundIf new x o
       by None f = tt
       by (Some c) f = still-found c r.low r.counts f
+
+pub sync-kept : (old new : Calling Leg) → CarriesReads old new → (s : SyncOut) → SyncKept old s → SyncKept new s
+sync-kept old new q s k = record {
+  low = omega (arith, k.low, q.tickets);
+  known = λ y at. k.known y (q.syncs s.ticket y k.low at);
+}
 
 -- a read that counts is the one that was handed out
 pub counts-as : (c : Calling Leg) (x : ReadOut) (came : Option Came) → ReadKept c x came → (y : ReadOut) → find_read x.ticket c.calls.reads ≡ Some y → y.void ≡ false → y ≡ x

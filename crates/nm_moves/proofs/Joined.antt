@@ -15,8 +15,8 @@ use Rattle.nm_calls.specs.CallsOut.{Calling, CallsOut, count_out}
 use Rattle.nm_calls.specs.Syncing.{AttachesOut, calls_joined, opened}
 use Rattle.nm_calls.proofs.ReturnedLemmas.{on-leg_at}
 use Rattle.nm_moves.specs.Moves.{HandsOut}
-use Rattle.nm_moves.specs.World.{Call, Out, Reads, World, Writes}
-use Rattle.nm_moves.proofs.Carried.{reads-carry, were-same}
+use Rattle.nm_moves.specs.World.{Call, Out, Reads, Syncs, World, Writes}
+use Rattle.nm_moves.proofs.Carried.{reads-carry, syncs-same, were-same}
 use Rattle.nm_moves.proofs.Faces.{faces}
 use Rattle.nm_moves.proofs.FoundReads.{CarriesReads, held}
 use Rattle.nm_moves.proofs.InTimes.{CarriesWrites, IsGone, is_of}
@@ -31,6 +31,7 @@ none-there leg (o ∷ os) none = (one o.call (omega (arith, none)), none-there l
   where
     one : (call : Call) → one_on leg call ≡ 0 → OtherThan (λ run to. to ≢ leg) call
     one (Reads x) zero_is = tt
+    one (Syncs y) zero_is = tt
     one (Writes run to block blocks) zero_is = λ e. let one_is : one_on leg (Writes run to block blocks) ≡ 1 = ap (λ (b : Bool). cond {A = ℕ} b 1 0) (eq-eqb to leg e) in omega (arith, zero_is, one_is)
 
 module _ {L : Type 0} (type : LegType L) (old new : World L) (s : InStep type old) (leg : ℕ) (inside : leg < length old.calling.stripe.legs) (a : AttachesOut old.calling new.calling leg) (h : HandsOut [] old new) where
@@ -51,7 +52,7 @@ module _ {L : Type 0} (type : LegType L) (old new : World L) (s : InStep type ol
 
   reads : CarriesReads c d
   reads =
-      reads-carry c d (ap (λ (n : CallsOut). n.tickets) a.calls) (were-same c.calls.reads d.calls.reads (ap (λ (n : CallsOut). n.reads) a.calls))
+      reads-carry c d (ap (λ (n : CallsOut). n.tickets) a.calls) (were-same c.calls.reads d.calls.reads (ap (λ (n : CallsOut). n.reads) a.calls)) (syncs-same c.calls.syncs d.calls.syncs (ap (λ (n : CallsOut). n.syncs) a.calls))
       (λ j. ap (λ (n : StripeState Leg). held n.legs j) a.stripe.after)
 
   abbrev states : List LegState

@@ -14,14 +14,15 @@ use Rattle.nm_calls.specs.CallsOut.{Calling, LegCalls, count_out}
 use Rattle.nm_calls.specs.HasCalls.{IsStanding}
 use Rattle.nm_calls.proofs.WriteOutLemmas.{never}
 use Rattle.nm_moves.specs.Laws.{HoldTheArray}
-use Rattle.nm_moves.specs.World.{AreAsAnswered, Call, Came, Out, Reads, World, Writes, is_made_on, made, unmade, writes_at}
-use Rattle.nm_moves.proofs.FoundReads.{CarriesReads, ReadKept, read-kept}
+use Rattle.nm_moves.specs.World.{AreAsAnswered, Call, Came, Out, Reads, Syncs, World, Writes, is_made_on, made, unmade, writes_at}
+use Rattle.nm_moves.proofs.FoundReads.{CarriesReads, ReadKept, SyncKept, read-kept, sync-kept}
 use Rattle.nm_moves.proofs.InTimes.{CarriesWrites, InTime, IsGone, WriteKept, attached, busy-with, one-run, unread, write-kept}
 use Rattle.nm_moves.proofs.Outs.{Each, each-of, each-other, each-with}
 
 -- what holds of a call that is out
 abbrev pub kept : {L : Type 0} → LegType L → List L → Calling Leg → Call → Option Came → Type 0
 kept type legs c (Reads x) came = ReadKept c x came
+kept type legs c (Syncs s) came = SyncKept c s
 kept type legs c (Writes run leg block blocks) came = WriteKept type legs c run leg block blocks came
 
 abbrev pub IsKept : {L : Type 0} → LegType L → List L → Calling Leg → Out → Type 0
@@ -39,6 +40,7 @@ AreApart (o ∷ os) = Each (λ p. Differ o.call p.call) os × AreApart os
 -- how many writes of a leg are out
 abbrev pub one_on : ℕ → Call → ℕ
 one_on leg (Reads x) = 0
+one_on leg (Syncs s) = 0
 one_on leg (Writes run to block blocks) = cond (to == leg) 1 0
 
 abbrev pub writes_on : ℕ → List Out → ℕ
@@ -60,8 +62,13 @@ pub record InStep {L : Type 0} (type : LegType L) (w : World L) : Type 0 where
 differ-back : (a b : Call) → Differ a b → Differ b a
 differ-back (Writes run leg block blocks) (Writes other to first more) d = λ e f. d (sym e) (sym f)
 differ-back (Writes run leg block blocks) (Reads x) d = tt
+differ-back (Writes run leg block blocks) (Syncs y) d = tt
 differ-back (Reads x) (Writes run leg block blocks) d = tt
 differ-back (Reads x) (Reads y) d = tt
+differ-back (Reads x) (Syncs y) d = tt
+differ-back (Syncs x) (Writes run leg block blocks) d = tt
+differ-back (Syncs x) (Reads y) d = tt
+differ-back (Syncs x) (Syncs y) d = tt
 
 pub apart-other : (front : List Out) (o : Out) (back : List Out) → AreApart (front ++ o ∷ back) → AreApart (front ++ back)
 apart-other [] o back all = all.1
@@ -83,11 +90,13 @@ apart-made (f ∷ front) call came back all = (
 -- what is out is out still
 abbrev pub OtherThan : (ℕ → ℕ → Type 0) → Call → Type 0
 OtherThan Other (Reads x) = Unit {0}
+OtherThan Other (Syncs s) = Unit {0}
 OtherThan Other (Writes run leg block blocks) = Other run leg
 
 module _ {L : Type 0} (type : LegType L) (legs : List L) (Other : ℕ → ℕ → Type 0) (old new : Calling Leg) (q : CarriesReads old new) (p : CarriesWrites Other old new) where
   one-still : (call : Call) (came : Option Came) → OtherThan Other call → kept type legs old call came → kept type legs new call came
   one-still (Reads x) came other k = read-kept old new q x came k
+  one-still (Syncs y) came other k = sync-kept old new q y k
   one-still (Writes run leg block blocks) came other k = write-kept type legs Other old new p run leg block blocks came other k
 
   pub still : (os : List Out) → Each (λ o. OtherThan Other o.call) os → Each (IsKept type legs old) os → Each (IsKept type legs new) os
@@ -104,6 +113,7 @@ any-each (o ∷ os) = (one o.call, any-each os)
   where
     one : (call : Call) → OtherThan Any call
     one (Reads x) = tt
+    one (Syncs s) = tt
     one (Writes run leg block blocks) = tt
 
 -- a block of a run lies between its ends
@@ -142,6 +152,7 @@ module _ {L : Type 0} (type : LegType L) (legs : List L) (c : Calling Leg) (k : 
   module _ (x : ReadOut) (i : ℕ) (stands : IsStanding x.ticket x i c.calls) where
     read-free : (call : Call) (came : Option Came) → kept type legs c call came → writes_at x.leg i call ≡ false
     read-free (Reads y) came h = refl
+    read-free (Syncs y) came h = refl
     read-free (Writes run to first blocks) came h =
         never ((to == x.leg) && is_among first (length blocks) i) (λ yes.
         let t = there x.leg i to first (length blocks) yes in
@@ -164,6 +175,7 @@ module _ {L : Type 0} (type : LegType L) (legs : List L) (c : Calling Leg) (k : 
   module _ (run leg block : ℕ) (blocks : List Block) (w : InTime c run leg block blocks) (i : ℕ) (low : block ≤ i) (high : i < block + length blocks) where
     write-free : (call : Call) (came : Option Came) → Differ (Writes run leg block blocks) call → kept type legs c call came → writes_at leg i call ≡ false
     write-free (Reads y) came d h = refl
+    write-free (Syncs y) came d h = refl
     write-free (Writes other to first more) came d h =
         never ((to == leg) && is_among first (length more) i) (λ yes.
         let t = there leg i to first (length more) yes in
@@ -187,6 +199,7 @@ module _ {L : Type 0} (type : LegType L) (w : World L) (s : InStep type w) where
   module _ (leg block : ℕ) (current : is_current leg block stripe ≡ true) (free : busy_on block stripe.records ≡ None) where
     idle : (call : Call) (came : Option Came) → kept type w.legs w.calling call came → writes_at leg block call ≡ false
     idle (Reads x) came h = refl
+    idle (Syncs y) came h = refl
     idle (Writes run to first blocks) came h =
         never ((to == leg) && is_among first (length blocks) block) (λ yes.
         let t = there leg block to first (length blocks) yes in

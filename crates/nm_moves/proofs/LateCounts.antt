@@ -19,7 +19,7 @@ use Rattle.nm_calls.proofs.ReturnedLemmas.{on-leg_at}
 use Rattle.nm_calls.proofs.TakenLemmas.{returned-at, taken-sums}
 use Rattle.nm_calls.proofs.VoidingLemmas.{voids-at, voids-sums, voids-without}
 use Rattle.nm_calls.proofs.WriteOutLemmas.{part-counts}
-use Rattle.nm_moves.specs.World.{Call, Came, Out, Reads, Writes, made, unmade}
+use Rattle.nm_moves.specs.World.{Call, Came, Out, Reads, Syncs, Writes, made, unmade}
 use Rattle.nm_moves.proofs.InTimes.{IsGone, is_of, out-but_call}
 use Rattle.nm_moves.proofs.Kept.{AreApart, CountsLate, Differ, one_on, writes_on}
 use Rattle.nm_moves.proofs.Outs.{Each}
@@ -52,6 +52,7 @@ counts-by old new out now counts each i l at gone =
 -- the write's call of this leg is one of the stripe's
 abbrev pub OutIf : ℕ → List WriteOut → Call → Type 0
 OutIf leg ws (Reads x) = Unit {0}
+OutIf leg ws (Syncs y) = Unit {0}
 OutIf leg ws (Writes run to block blocks) = to ≡ leg → list_any (is_of run leg) ws ≡ true
 
 -- a write that is out and counted is one more than the others
@@ -83,12 +84,14 @@ still-out leg run to block blocks ws (o ∷ os) own ds all = (one o.call ds.0 al
   where
     one : (call : Call) → Differ (Writes run to block blocks) call → OutIf leg ws call → OutIf leg (without_write run leg ws) call
     one (Reads x) d out = tt
+    one (Syncs y) d out = tt
     one (Writes other there first more) d out = λ is. out-but_call other leg run leg ws (λ e _. d (sym e) (own ∙ sym is)) (out is)
 
 -- one more that is out is one more that the stripe counts
 one-most : (leg : ℕ) (ws : List WriteOut) (os : List Out) → ((us : List WriteOut) → Each (λ o. OutIf leg us o.call) os → writes_on leg os ≤ count_by (λ w. (w.leg == leg) && not w.waits) us) → Each (λ o. OutIf leg ws o.call) os
     → (call : Call) → Each (λ p. Differ call p.call) os → OutIf leg ws call → one_on leg call + writes_on leg os ≤ count_by (λ w. (w.leg == leg) && not w.waits) ws
 one-most leg ws os more all (Reads x) ds out = let rest = more ws all in omega (arith, rest)
+one-most leg ws os more all (Syncs y) ds out = let rest = more ws all in omega (arith, rest)
 one-most leg ws os more all (Writes run to block blocks) ds out =
     ⊎_elim
     (λ own.

@@ -1,10 +1,12 @@
 -- A leg that has gone out is behind where a write was under way, and stays so while it is out.
-use Rattle.std.proofs.Common.{◌≡◌, ◌≢◌, ℕ, ◌/◌, ◌<◌, ◌==◌, ◌&&◌, ◌||◌, Bool, true, false, not, List, Option, None, Some, cond, length, map, refl, sym, ap, ◌∙◌, get_or, ne_eqb, nat_lt}
+use Rattle.std.proofs.Common.{◌≡◌, ◌≢◌, ℕ, ◌/◌, ◌<◌, ◌==◌, ◌&&◌, ◌||◌, Bool, true, false, not, List, Option, None, Some, cond, length, map, refl, sym, ap, ◌∙◌, get_or, ne_eqb, nat_lt, zero, suc, [], ◌∷◌, slice_set}
+use Rattle.std.proofs.lemmas.List.{get_or-replicate}
+use Rattle.nm_rules.proofs.DirtyLemmas.{behind-inside}
 use Rattle.std.proofs.lemmas.Bool.{eqb-true}
 use Rattle.nm_fanout.specs.declared.record_data.RecordData.{RecordData}
 use Rattle.nm_regions.specs.declared.copy_place.CopyPlace.{CopyPlace}
-use Rattle.nm_regions.specs.Changes.{copy_but_of}
-use Rattle.nm_regions.specs.LegFlags.{LegRegions, is_behind, marked_if_out, no_leg}
+use Rattle.nm_regions.specs.Changes.{copy_but_of, with_leg}
+use Rattle.nm_regions.specs.LegFlags.{LegRegions, all_marked, is_behind, marked_if_out, no_leg}
 use Rattle.nm_regions.specs.Table.{has_copied, leg_at, place_of, region_of}
 use Rattle.nm_rules.specs.Invariant.{is_clear}
 use Rattle.nm_rules.specs.Lost.{dirty_and_out, failed_over, lost, settled, without_leg_of}
@@ -72,3 +74,17 @@ clear-begun s block ds leg b not_clear =
     behind-not (is_behind (b / s.place.region) (get_or (map (marked_if_out (region_of block (table s))) s.flags) leg no_leg)) (has_copied leg (b / s.place.region) (place_of b (table s)) s.copy)
     (ap (λ (l : LegRegions). is_behind (b / s.place.region) l) (mark-leg (region_of block (table s)) leg s.flags) ∙ mark-behind (region_of block (table s)) (b / s.place.region) (leg_at leg (table s)) parts.0)
     parts.1
+
+-- a leg that is behind everywhere leaves none less behind
+marked-behind : (xs : List LegRegions) (leg j region : ℕ) → is_behind region (get_or xs j no_leg) ≡ true → is_behind region (get_or (slice_set xs leg (all_marked (get_or xs leg no_leg))) j no_leg) ≡ true
+marked-behind [] leg j region is = is
+marked-behind (x ∷ xs) zero zero region is = get_or-replicate (length x.behind) region true false (behind-inside x.behind region is)
+marked-behind (x ∷ xs) zero (suc j) region is = is
+marked-behind (x ∷ xs) (suc leg) zero region is = is
+marked-behind (x ∷ xs) (suc leg) (suc j) region is = marked-behind xs leg j region is
+
+pub clear-all : {L : Type 0} (s : StripeState L) (leg j b : ℕ) → is_clear j b s ≡ false → is_clear j b (record s { flags = (with_leg all_marked leg (table s)).legs }) ≡ false
+clear-all s leg j b not_clear =
+    let parts = not-parts (is_behind (b / s.place.region) (leg_at j (table s))) (has_copied j (b / s.place.region) (place_of b (table s)) s.copy) not_clear in
+    behind-not (is_behind (b / s.place.region) (get_or (slice_set s.flags leg (all_marked (get_or s.flags leg no_leg))) j no_leg)) (has_copied j (b / s.place.region) (place_of b (table s)) s.copy)
+    (marked-behind s.flags leg j (b / s.place.region) parts.0) parts.1

@@ -14,4 +14,5 @@ pub mod Outs
 pub mod ReadAnswers
 pub mod Same
 pub mod Steps
+pub mod SyncAnswers
 pub mod WriteAnswers

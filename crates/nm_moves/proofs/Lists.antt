@@ -5,6 +5,7 @@ use Rattle.nm_replay.specs.declared.block.Block.{Block}
 use Rattle.nm_leg.specs.Leg.{Leg, LegType}
 use Rattle.nm_rules.specs.declared.refusal.Refusal.TheVariants.{AlreadyOut}
 use Rattle.nm_rules.specs.Attach.{after_attach}
+use Rattle.nm_moves.proofs.SyncAnswers.{believed-ends_sync, sync-counts, sync-each}
 use Rattle.nm_moves.proofs.Joined.{joined-counts, joined-each}
 use Rattle.nm_rules.specs.Failing.{GoesOut, fail_rows}
 use Rattle.nm_rules.specs.Invariant.{is_clear}
@@ -15,9 +16,9 @@ use Rattle.nm_rules.proofs.CauseLemmas.{none_holds, when_off}
 use Rattle.nm_calls.specs.AsAnswered.{answered}
 use Rattle.nm_calls.specs.CallsOut.{Calling, CallsOut}
 use Rattle.nm_moves.specs.Laws.{ActOnOneArray, CallsAreMadeAtTheirAnswers, Hold, MovesAct, NoneStops, Starts, concat}
-use Rattle.nm_moves.specs.Moves.{AnswersRead, AnswersWrite, AsksRead, AsksWrite, Attaches, Begins, CallsOf, Claims, ComesLate, EndsWrite, Fails, Makes, Move, MoveOf, MovesRun, ReachesLeg, StepOf, StepsRun, StopsStripe, TakesAnswer, TakesLegOut, WriteEnds, unbelieved}
-use Rattle.nm_moves.specs.World.{AreAsAnswered, Came, Out, Reads, World, Writes, made}
-use Rattle.nm_moves.proofs.Carried.{begins-faces, claims-faces, reads-carry, were-lost, were-same, writes-lost, writes-same}
+use Rattle.nm_moves.specs.Moves.{AnswersRead, AnswersSync, AnswersWrite, AsksRead, AsksSync, AsksWrite, Attaches, Begins, CallsOf, Claims, ComesLate, EndsWrite, Fails, Makes, Move, MoveOf, MovesRun, ReachesLeg, StepOf, StepsRun, StopsStripe, TakesAnswer, TakesLegOut, WriteEnds, unbelieved}
+use Rattle.nm_moves.specs.World.{AreAsAnswered, Came, Out, Reads, Syncs, World, Writes, made}
+use Rattle.nm_moves.proofs.Carried.{syncs-same, begins-faces, claims-faces, reads-carry, were-lost, were-same, writes-lost, writes-same}
 use Rattle.nm_moves.proofs.FoundReads.{held, known-block}
 use Rattle.nm_moves.proofs.InTimes.{IsGone}
 use Rattle.nm_moves.proofs.Kept.{Any, AreApart, CountsLate, InStep, IsKept, apart-made, hold-the-array, one_on, writes_on}
@@ -30,7 +31,7 @@ use Rattle.nm_moves.proofs.Same.{answers-same, hands-same, makes-same}
 use Rattle.nm_moves.proofs.Steps.{IsKnown, Leaves, step-leaves}
 use Rattle.nm_moves.proofs.WriteAnswers.{believed-ends_write, is-late}
 use Rattle.nm_moves.proofs.Answered.{answer-apart, answer-counts, answer-each, failed-counts, read-counts, read-each}
-use Rattle.nm_moves.proofs.Asked.{asked-apart, asked-counts, asked-each, asked-stays, lost-legs, none-apart, none-counts, none-each, stays-by, write-apart, write-counts, write-each, write-stripe}
+use Rattle.nm_moves.proofs.Asked.{asked_sync-apart, asked_sync-counts, asked_sync-each, asked_sync-stays, asked-apart, asked-counts, asked-each, asked-stays, lost-legs, none-apart, none-counts, none-each, stays-by, write-apart, write-counts, write-each, write-stripe}
 
 module _ {L : Type 0} (type : LegType L) (is_honest : IsTrue type.honest) (old new : World L) (s : InStep type old) where
   abbrev c : Calling Leg
@@ -43,20 +44,22 @@ module _ {L : Type 0} (type : LegType L) (is_honest : IsTrue type.honest) (old n
   believed : (move : Move) → StepOf unbelieved move c d → CallsOf type move old new → StepOf answered move c d
   believed (AsksRead leg block count) step calls = step
   believed (AsksWrite run leg block) step calls = step
+  believed (AsksSync leg asked_for counts) step calls = step
   believed (Makes call came) step calls = step
-  believed (AnswersRead x came ends) step calls = believed-ends_read type old new s x came calls ends step
-  believed (AnswersWrite run leg block blocks came ends) step calls = believed-ends_write type old new s run leg block blocks came calls ends step
+  believed (AnswersRead x came ends) step calls = believed-ends_read type old new s x came ends calls ends step
+  believed (AnswersWrite run leg block blocks came ends) step calls = believed-ends_write type old new s run leg block blocks came ends calls ends step
+  believed (AnswersSync x came ends) step calls = believed-ends_sync type is_honest old new s x came ends calls step
   believed (Begins block ds ticket) step calls = step
   believed (Claims ticket names) step calls = step
   believed (Fails leg) step calls = step
   believed (Attaches leg) step calls = step
 
-  known-write : (run leg block : ℕ) (blocks : List Block) (came : Came) (ends : WriteEnds) → EndsWrite unbelieved run leg block blocks came ends c d → TakesAnswer type (Writes run leg block blocks) came old new → IsKnown (AnswersWrite run leg block blocks came ends) c
+  known-write : (run leg block : ℕ) (blocks : List Block) (came : Came) (ends : WriteEnds) → EndsWrite unbelieved run leg block blocks came ends c d → TakesAnswer type (Writes run leg block blocks) came (AnswersWrite run leg block blocks came ends) old new → IsKnown (AnswersWrite run leg block blocks came ends) c
   known-write run leg block blocks came ReachesLeg step a = tt
   known-write run leg block blocks came TakesLegOut step a = tt
   known-write run leg block blocks came StopsStripe step a = tt
   known-write run leg block blocks came ComesLate step a =
-      let late = is-late type old new s run leg block blocks came a step.late in
+      let late = is-late type old new s run leg block blocks came ComesLate a step.late in
       let split = on-split leg a.front (made (Writes run leg block blocks) came) a.back in
       let own : one_on leg (Writes run leg block blocks) ≡ 1 = ap (λ (b : Bool). cond {A = ℕ} b 1 0) (eq-eqb leg leg refl) in
       record {
@@ -71,9 +74,11 @@ module _ {L : Type 0} (type : LegType L) (is_honest : IsTrue type.honest) (old n
   known : (move : Move) → StepOf unbelieved move c d → CallsOf type move old new → IsKnown move c
   known (AsksRead leg block count) step calls = tt
   known (AsksWrite run leg block) step calls = tt
+  known (AsksSync leg asked_for counts) step calls = tt
   known (Makes call came) step calls = tt
-  known (AnswersRead x came ends) step calls = known-block c x (Some came) (kept-read type old new s x came calls)
+  known (AnswersRead x came ends) step calls = known-block c x (Some came) (kept-read type old new s x came ends calls)
   known (AnswersWrite run leg block blocks came ends) step calls = known-write run leg block blocks came ends step calls
+  known (AnswersSync x came ends) step calls = tt
   known (Begins block ds ticket) step calls = tt
   known (Claims ticket names) step calls = tt
   known (Fails leg) step calls = tt
@@ -94,18 +99,21 @@ module _ {L : Type 0} (type : LegType L) (is_honest : IsTrue type.honest) (old n
       by-same : (move : Move) → StepOf unbelieved move c d → CallsOf type move old new → AreAsAnswered type new
       by-same (AsksRead leg block count) step calls = hands-same type is_honest _ old new calls (asked-stays type is_honest old new s leg block count step.1 calls) s.same
       by-same (AsksWrite run leg block) step calls = hands-same type is_honest _ old new calls (λ j. ap (λ (n : StripeState Leg). held n.legs j) (write-stripe type is_honest old new s run leg block step.0 step.1)) s.same
+      by-same (AsksSync leg asked_for counts) step calls = hands-same type is_honest _ old new calls (asked_sync-stays type is_honest old new s leg asked_for counts step.0 step.1 calls) s.same
+      by-same (AnswersSync x came ends) step calls = answers-same type is_honest (Syncs x) came _ old new calls s.same
       by-same (Makes call came) step calls = makes-same type is_honest call came old new calls step s.same
-      by-same (AnswersRead x came ends) step calls = answers-same type is_honest (Reads x) came old new calls s.same
-      by-same (AnswersWrite run leg block blocks came ends) step calls = answers-same type is_honest (Writes run leg block blocks) came old new calls s.same
+      by-same (AnswersRead x came ends) step calls = answers-same type is_honest (Reads x) came _ old new calls s.same
+      by-same (AnswersWrite run leg block blocks came ends) step calls = answers-same type is_honest (Writes run leg block blocks) came _ old new calls s.same
       by-same (Begins block ds ticket) step calls = hands-same type is_honest [] old new calls (stays-by type is_honest old new s _ step.0.after refl) s.same
       by-same (Claims ticket names) step calls = hands-same type is_honest [] old new calls (stays-by type is_honest old new s _ step.0.after refl) s.same
       by-same (Fails leg) step calls = hands-same type is_honest [] old new calls (stays-by type is_honest old new s (lost leg c.stripe) step.0.after (lost-legs leg c.stripe)) s.same
-
       by-same (Attaches leg) step calls = hands-same type is_honest [] old new calls (stays-by type is_honest old new s (after_attach c.stripe leg) step.1.stripe.after refl) s.same
 
       by-each : (move : Move) → StepOf unbelieved move c d → CallsOf type move old new → Each (IsKept type new.legs d) new.out
       by-each (AsksRead leg block count) step calls = asked-each type is_honest old new s leg block count step.1 calls
       by-each (AsksWrite run leg block) step calls = write-each type is_honest old new s run leg block step.0 step.1 calls
+      by-each (AsksSync leg asked_for counts) step calls = asked_sync-each type is_honest old new s leg asked_for counts step.0 step.1 calls
+      by-each (AnswersSync x came ends) step calls = sync-each type is_honest old new s x came ends calls step
       by-each (Makes call came) step calls =
           subst (λ (n : Calling Leg). Each (IsKept type new.legs n) new.out) (sym step)
           (subst (λ (os : List Out). Each (IsKept type new.legs c) os) (sym calls.is) (each-made type is_honest old new s call came calls))
@@ -113,26 +121,27 @@ module _ {L : Type 0} (type : LegType L) (is_honest : IsTrue type.honest) (old n
       by-each (AnswersWrite run leg block blocks came ends) step calls = answer-each type is_honest old new s run leg block blocks came ends step calls
       by-each (Begins block ds ticket) step calls =
           none-each type is_honest old new s calls
-          (reads-carry c d (ap (λ (n : CallsOut). n.tickets) step.1) (were-same c.calls.reads d.calls.reads (ap (λ (n : CallsOut). n.reads) step.1)) (stays-by type is_honest old new s _ step.0.after refl))
+          (reads-carry c d (ap (λ (n : CallsOut). n.tickets) step.1) (were-same c.calls.reads d.calls.reads (ap (λ (n : CallsOut). n.reads) step.1)) (syncs-same c.calls.syncs d.calls.syncs (ap (λ (n : CallsOut). n.syncs) step.1)) (stays-by type is_honest old new s _ step.0.after refl))
           (writes-same c d (ap (λ (n : StripeState Leg). n.states) step.0.after) (λ l k not_clear. ap (λ (n : StripeState Leg). is_clear l k n) step.0.after ∙ clear-begun c.stripe block ds l k not_clear) (ap (λ (n : CallsOut). n.writes) step.1) (λ run to first blocks w. begins-faces c d s.keeps run to first blocks w block ds ticket step.0))
       by-each (Claims ticket names) step calls =
           none-each type is_honest old new s calls
-          (reads-carry c d (ap (λ (n : CallsOut). n.tickets) step.1) (were-same c.calls.reads d.calls.reads (ap (λ (n : CallsOut). n.reads) step.1)) (stays-by type is_honest old new s _ step.0.after refl))
+          (reads-carry c d (ap (λ (n : CallsOut). n.tickets) step.1) (were-same c.calls.reads d.calls.reads (ap (λ (n : CallsOut). n.reads) step.1)) (syncs-same c.calls.syncs d.calls.syncs (ap (λ (n : CallsOut). n.syncs) step.1)) (stays-by type is_honest old new s _ step.0.after refl))
           (writes-same c d (ap (λ (n : StripeState Leg). n.states) step.0.after) (λ l k not_clear. ap (λ (n : StripeState Leg). is_clear l k n) step.0.after ∙ not_clear) (ap (λ (n : CallsOut). n.writes) step.1) (λ run to first blocks w. claims-faces c d s.keeps run to first blocks w ticket names step.0))
       by-each (Fails leg) step calls =
           none-each type is_honest old new s calls
-          (reads-carry c d (ap (λ (n : CallsOut). n.tickets) step.1) (were-lost c.calls.reads d.calls.reads leg c.stripe.master (ap (λ (n : CallsOut). n.reads) step.1)) (stays-by type is_honest old new s (lost leg c.stripe) step.0.after (lost-legs leg c.stripe)))
+          (reads-carry c d (ap (λ (n : CallsOut). n.tickets) step.1) (were-lost c.calls.reads d.calls.reads leg c.stripe.master (ap (λ (n : CallsOut). n.reads) step.1)) (syncs-same c.calls.syncs d.calls.syncs (ap (λ (n : CallsOut). n.syncs) step.1)) (stays-by type is_honest old new s (lost leg c.stripe) step.0.after (lost-legs leg c.stripe)))
           (writes-lost c d s.keeps leg c.stripe.legs (fails-attached leg step.0) step.0.after c.calls.writes Any (ap (λ (n : CallsOut). n.writes) step.1) (λ run to other out. out))
-
       by-each (Attaches leg) step calls = joined-each type old new s leg step.0 step.1 calls
 
       by-apart : (move : Move) → StepOf unbelieved move c d → CallsOf type move old new → AreApart new.out
       by-apart (AsksRead leg block count) step calls = asked-apart type is_honest old new s leg block count step.1 calls
       by-apart (AsksWrite run leg block) step calls = write-apart type is_honest old new s run leg block step.0 step.1 calls
+      by-apart (AsksSync leg asked_for counts) step calls = asked_sync-apart type is_honest old new s leg asked_for counts step.0 step.1 calls
+      by-apart (AnswersSync x came ends) step calls = answer-apart type is_honest old new s (Syncs x) came _ calls
       by-apart (Makes call came) step calls =
           subst (λ (os : List Out). AreApart os) (sym calls.is) (apart-made calls.front call came calls.back (subst (λ (os : List Out). AreApart os) calls.was s.apart))
-      by-apart (AnswersRead x came ends) step calls = answer-apart type is_honest old new s (Reads x) came calls
-      by-apart (AnswersWrite run leg block blocks came ends) step calls = answer-apart type is_honest old new s (Writes run leg block blocks) came calls
+      by-apart (AnswersRead x came ends) step calls = answer-apart type is_honest old new s (Reads x) came _ calls
+      by-apart (AnswersWrite run leg block blocks came ends) step calls = answer-apart type is_honest old new s (Writes run leg block blocks) came _ calls
       by-apart (Begins block ds ticket) step calls = none-apart type is_honest old new s calls
       by-apart (Claims ticket names) step calls = none-apart type is_honest old new s calls
       by-apart (Fails leg) step calls = none-apart type is_honest old new s calls
@@ -141,6 +150,8 @@ module _ {L : Type 0} (type : LegType L) (is_honest : IsTrue type.honest) (old n
       by-counts : (move : Move) → StepOf unbelieved move c d → CallsOf type move old new → CountsLate d new.out
       by-counts (AsksRead leg block count) step calls = asked-counts type is_honest old new s leg block count step.1 calls
       by-counts (AsksWrite run leg block) step calls = write-counts type is_honest old new s run leg block step.0 step.1 calls
+      by-counts (AsksSync leg asked_for counts) step calls = asked_sync-counts type is_honest old new s leg asked_for counts step.0 step.1 calls
+      by-counts (AnswersSync x came ends) step calls = sync-counts type is_honest old new s x came ends calls step
       by-counts (Makes call came) step calls =
           counts-same c d old.out new.out (ap (λ (n : Calling Leg). n.calls) step) (λ i gone. subst (λ (n : Calling Leg). IsGone i n) step gone)
           (λ i. ap (λ (os : List Out). writes_on i os) calls.is ∙ on-made i call came calls.front calls.back ∙ sym (ap (λ (os : List Out). writes_on i os) calls.was)) s.counted
@@ -151,13 +162,14 @@ module _ {L : Type 0} (type : LegType L) (is_honest : IsTrue type.honest) (old n
       by-counts (Fails leg) step calls =
           subst (λ (os : List Out). CountsLate d os) (sym calls.out)
           (failed-counts type is_honest old new s leg c.stripe.legs step.0.after step.1 (both_ways (is_out (leg_state leg c.stripe)) (fails-attached leg step.0)))
-
       by-counts (Attaches leg) step calls = joined-counts type old new s leg step.0 step.1 calls
 
 -- none stops the stripe: not the first, and none of the others
 none-first : (move : Move) (moves : List Move) → NoneStops (move ∷ moves) → NoneStops (move ∷ []) × NoneStops moves
 none-first (AsksRead leg block count) moves none = (tt, none)
 none-first (AsksWrite run leg block) moves none = (tt, none)
+none-first (AsksSync leg asked_for counts) moves none = (tt, none)
+none-first (AnswersSync x came ends) moves none = (tt, none)
 none-first (Makes call came) moves none = (tt, none)
 none-first (AnswersRead x came ends) moves none = (tt, none)
 none-first (AnswersWrite run leg block blocks came ReachesLeg) moves none = (tt, none)

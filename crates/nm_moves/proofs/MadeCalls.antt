@@ -14,7 +14,7 @@ use Rattle.nm_rules.proofs.StateLemmas.{attached_inside}
 use Rattle.nm_calls.proofs.ReadEndLemmas.{among}
 use Rattle.nm_calls.proofs.WriteOutLemmas.{never}
 use Rattle.nm_moves.specs.Moves.{MakesCall}
-use Rattle.nm_moves.specs.World.{Call, Came, Out, Reads, World, Writes, is_made_on, made, unmade, writes_at}
+use Rattle.nm_moves.specs.World.{Call, Came, Out, Reads, Syncs, World, Writes, is_made_on, made, unmade, writes_at}
 use Rattle.nm_moves.proofs.FoundReads.{held, stands-too}
 use Rattle.nm_moves.proofs.InTimes.{InTime, IsGone, attached, inside, one-run}
 use Rattle.nm_moves.proofs.Kept.{AreApart, Differ, InStep, IsKept, apart-of, free-read, free-write, kept, there}
@@ -105,6 +105,7 @@ module _ {L : Type 0} (type : LegType L) (is_honest : IsTrue type.honest) (old n
   stays : (call : Call) (came : Came) (m : MakesCall type call came old new) → kept type old.legs old.calling call None → (other to first : ℕ) (more : List Block) → Differ call (Writes other to first more)
       → InTime old.calling other to first more → (i : ℕ) → first ≤ i → i < first + length more → writes_at to i call ≡ false
   stays (Reads x) came m k other to first more d v i low high = refl
+  stays (Syncs y) came m k other to first more d v i low high = refl
   stays (Writes run leg block blocks) came m k other to first more d v i low high =
       never ((leg == to) && is_among block (length blocks) i) (λ yes.
       let t = there to i leg block (length blocks) yes in
@@ -115,6 +116,7 @@ module _ {L : Type 0} (type : LegType L) (is_honest : IsTrue type.honest) (old n
 
   one-stays : (call : Call) (came : Came) (m : MakesCall type call came old new) → kept type old.legs old.calling call None → (o : Call) (oc : Option Came) → Differ call o → kept type old.legs old.calling o oc → kept type new.legs old.calling o oc
   one-stays call came m k (Reads x) oc d h = h
+  one-stays call came m k (Syncs y) oc d h = h
   one-stays call came m k (Writes other to first more) None d h = h
   one-stays call came m k (Writes other to first more) (Some c) d h =
       ⊎_elim
@@ -150,6 +152,7 @@ module _ {L : Type 0} (type : LegType L) (is_honest : IsTrue type.honest) (old n
           (subst (λ (xs : List Block). HoldsRun x.block came.found xs) (sym (calls-before type.model old.legs new.legs x.leg r.before r.after r.change)) (r.reads.found is_honest (subst (λ (b : Bool). IsTrue b) (sym done) refl)));
     };
   }
+  made-kept (Syncs y) came m k = k
   made-kept (Writes run leg block blocks) came m k =
       ⊎_elim
       (λ w. inl (w.0, left-there type is_honest old new s run leg block blocks came m w.0))

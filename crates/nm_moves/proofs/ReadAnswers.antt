@@ -6,14 +6,14 @@ use Rattle.nm_calls.specs.Answers.{read_answered}
 use Rattle.nm_calls.specs.AsAnswered.{answered}
 use Rattle.nm_calls.specs.declared.read_out.ReadOut.{ReadOut}
 use Rattle.nm_calls.specs.CallsOut.{Calling, CallsOut, find_read}
-use Rattle.nm_moves.specs.Moves.{EndsRead, Finds, IsRefused, IsTakenOff, LosesLeg, ReadEnds, TakesAnswer, unbelieved}
+use Rattle.nm_moves.specs.Moves.{AnswersRead, EndsRead, Finds, IsRefused, IsTakenOff, LosesLeg, ReadEnds, TakesAnswer, unbelieved}
 use Rattle.nm_moves.specs.World.{Came, Out, Reads, World, made}
-use Rattle.nm_moves.proofs.Carried.{reads-carry, were-taken, were-taken_lost}
+use Rattle.nm_moves.proofs.Carried.{reads-carry, syncs-same, were-taken, were-taken_lost}
 use Rattle.nm_moves.proofs.FoundReads.{CarriesReads, ReadKept, believed-read, counts-as, held}
 use Rattle.nm_moves.proofs.Kept.{InStep, IsKept}
 use Rattle.nm_moves.proofs.Outs.{Each, each-of}
 
-module _ {L : Type 0} (type : LegType L) (old new : World L) (s : InStep type old) (x : ReadOut) (came : Came) (a : TakesAnswer type (Reads x) came old new) where
+module _ {L : Type 0} (type : LegType L) (old new : World L) (s : InStep type old) (x : ReadOut) (came : Came) (told : ReadEnds) (a : TakesAnswer type (Reads x) came (AnswersRead x came told) old new) where
   -- no leg changes
   pub reads-stay : (j : ℕ) → held new.calling.stripe.legs j ≡ held old.calling.stripe.legs j
   reads-stay j = same_by_slice_get (held new.calling.stripe.legs j) (held old.calling.stripe.legs j) (λ k. a.others j k refl)
@@ -90,14 +90,14 @@ module _ {L : Type 0} (type : LegType L) (old new : World L) (s : InStep type ol
   pub ends-carry : (ends : ReadEnds) → EndsRead unbelieved x.ticket came ends old.calling new.calling → CarriesReads old.calling new.calling
   ends-carry (Finds number) step =
       let calls = step.4.calls in
-      reads-carry old.calling new.calling (ap (λ (c : CallsOut). c.tickets) calls) (were-taken old.calling.calls.reads new.calling.calls.reads step.0.ticket (ap (λ (c : CallsOut). c.reads) calls)) reads-stay
+      reads-carry old.calling new.calling (ap (λ (c : CallsOut). c.tickets) calls) (were-taken old.calling.calls.reads new.calling.calls.reads step.0.ticket (ap (λ (c : CallsOut). c.reads) calls)) (syncs-same old.calling.calls.syncs new.calling.calls.syncs (ap (λ (c : CallsOut). c.syncs) calls)) reads-stay
   ends-carry LosesLeg step =
       let calls = step.3.calls in
       reads-carry old.calling new.calling (ap (λ (c : CallsOut). c.tickets) calls)
-      (were-taken_lost old.calling.calls.reads new.calling.calls.reads step.0.ticket step.0.leg old.calling.stripe.master (ap (λ (c : CallsOut). c.reads) calls)) reads-stay
+      (were-taken_lost old.calling.calls.reads new.calling.calls.reads step.0.ticket step.0.leg old.calling.stripe.master (ap (λ (c : CallsOut). c.reads) calls)) (syncs-same old.calling.calls.syncs new.calling.calls.syncs (ap (λ (c : CallsOut). c.syncs) calls)) reads-stay
   ends-carry IsRefused step =
       let calls = step.3.calls in
-      reads-carry old.calling new.calling (ap (λ (c : CallsOut). c.tickets) calls) (were-taken old.calling.calls.reads new.calling.calls.reads step.0.ticket (ap (λ (c : CallsOut). c.reads) calls)) reads-stay
+      reads-carry old.calling new.calling (ap (λ (c : CallsOut). c.tickets) calls) (were-taken old.calling.calls.reads new.calling.calls.reads step.0.ticket (ap (λ (c : CallsOut). c.reads) calls)) (syncs-same old.calling.calls.syncs new.calling.calls.syncs (ap (λ (c : CallsOut). c.syncs) calls)) reads-stay
   ends-carry IsTakenOff step =
       let calls : new.calling.calls ≡ read_answered step.read old.calling.calls = ap (λ (c : Calling Leg). c.calls) step.after in
-      reads-carry old.calling new.calling (ap (λ (c : CallsOut). c.tickets) calls) (were-taken old.calling.calls.reads new.calling.calls.reads step.read.ticket (ap (λ (c : CallsOut). c.reads) calls)) reads-stay
+      reads-carry old.calling new.calling (ap (λ (c : CallsOut). c.tickets) calls) (were-taken old.calling.calls.reads new.calling.calls.reads step.read.ticket (ap (λ (c : CallsOut). c.reads) calls)) (syncs-same old.calling.calls.syncs new.calling.calls.syncs (ap (λ (c : CallsOut). c.syncs) calls)) reads-stay

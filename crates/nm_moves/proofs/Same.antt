@@ -4,13 +4,14 @@ use Rattle.std.proofs.lemmas.Bool.{le-leb, lt-ltb}
 use Rattle.nm_replay.specs.declared.block.Block.{Block}
 use Rattle.nm_fanout.specs.Records.{is_among}
 use Rattle.nm_leg.specs.Leg.{IsOutside, LegType}
+use Rattle.nm_leg.specs.LegCalls.{SyncsLegAt}
 use Rattle.nm_leg.proofs.RunLemmas.{where_is}
 use Rattle.nm_rules.specs.Array.{contents_of}
 use Rattle.nm_rules.specs.RunCalls.{ReadsRunAt, WritesRunAt}
 use Rattle.nm_rules.proofs.LegLemmas.{calls-after, calls-before, calls-other}
 use Rattle.nm_rules.proofs.RecordLemmas.{one_or_two}
-use Rattle.nm_moves.specs.Moves.{HandsOut, IsMade, MakesCall, TakesAnswer}
-use Rattle.nm_moves.specs.World.{AreAsAnswered, Call, Came, Out, Reads, World, Writes, as_answered, as_it_is, is_made_on, made, unmade, writes_at}
+use Rattle.nm_moves.specs.Moves.{HandsOut, Move, IsMade, MakesCall, TakesAnswer}
+use Rattle.nm_moves.specs.World.{AreAsAnswered, Call, Came, Out, Reads, Syncs, World, Writes, as_answered, as_it_is, is_made_on, made, unmade, writes_at}
 use Rattle.nm_moves.proofs.Outs.{any-without, none-of-all, none-unmade}
 use Rattle.nm_moves.proofs.FoundReads.{held}
 
@@ -35,6 +36,14 @@ module _ {L : Type 0} (type : LegType L) (is_honest : IsTrue type.honest) where
       (λ ne. calls-other type.model old new leg j r.before r.after r.change ne)
       (one_or_two j leg)
 
+  -- nor does a sync
+  pub sync-same : (done : Bool) (leg : ℕ) (old new : List L) → SyncsLegAt type done leg old new → (j : ℕ) → contents_of type.model new j ≡ contents_of type.model old j
+  sync-same done leg old new r j =
+      ⊎_elim
+      (λ is. subst (λ (i : ℕ). contents_of type.model new i ≡ contents_of type.model old i) (sym is) (calls-after type.model old new leg r.before r.after r.change ∙ r.syncs.contents is_honest ∙ sym (calls-before type.model old new leg r.before r.after r.change)))
+      (λ ne. calls-other type.model old new leg j r.before r.after r.change ne)
+      (one_or_two j leg)
+
   -- a write changes those of its blocks on its leg
   pub write-other : (done : Bool) (leg block : ℕ) (blocks : List Block) (old new : List L) → WritesRunAt type done leg block blocks old new
       → (j k : ℕ) → ((leg == j) && is_among block (length blocks) k) ≡ false → slice_get (contents_of type.model new j) k ≡ slice_get (contents_of type.model old j) k
@@ -52,6 +61,7 @@ module _ {L : Type 0} (type : LegType L) (is_honest : IsTrue type.honest) where
   pub made-other : (call : Call) (came : Came) (old new : List L) → IsMade type call came old new → (leg block : ℕ) → writes_at leg block call ≡ false
       → slice_get (contents_of type.model new leg) block ≡ slice_get (contents_of type.model old leg) block
   made-other (Reads x) came old new m leg block off = ap (λ (xs : List Block). slice_get xs block) (read-same came.done x.leg x.block came.found old new m.1 leg)
+  made-other (Syncs s) came old new m leg block off = ap (λ (xs : List Block). slice_get xs block) (sync-same came.done s.leg old new m leg)
   made-other (Writes run to first blocks) came old new m leg block off = write-other came.done to first blocks old new m leg block off
 
   pub makes-same : (call : Call) (came : Came) (old new : World L) → MakesCall type call came old new → new.calling ≡ old.calling → AreAsAnswered type old → AreAsAnswered type new
@@ -62,8 +72,8 @@ module _ {L : Type 0} (type : LegType L) (is_honest : IsTrue type.honest) where
       ∙ same leg block before
       ∙ ap (λ c. slice_get (contents_of (λ l. l) c.stripe.legs leg) block) (sym stays)
 
-  pub answers-same : (call : Call) (came : Came) (old new : World L) → TakesAnswer type call came old new → AreAsAnswered type old → AreAsAnswered type new
-  answers-same call came old new a same leg block none = by (writes_at leg block call) refl
+  pub answers-same : (call : Call) (came : Came) (move : Move) (old new : World L) → TakesAnswer type call came move old new → AreAsAnswered type old → AreAsAnswered type new
+  answers-same call came move old new a same leg block none = by (writes_at leg block call) refl
     where
       stays : as_it_is type new leg block ≡ as_it_is type old leg block
       stays = ap (λ (ls : List L). slice_get (contents_of type.model ls leg) block) a.legs

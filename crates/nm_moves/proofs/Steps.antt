@@ -16,7 +16,7 @@ use Rattle.nm_rules.specs.RunRead.{marks_of_reads}
 use Rattle.nm_rules.specs.State.{StripeState, is_out, leg_state}
 use Rattle.nm_rules.proofs.ActsLemmas.{explained-stays}
 use Rattle.nm_rules.proofs.AttachLemmas.{attach-acts, attach-keeps, may_attach}
-use Rattle.nm_calls.proofs.SyncOutLemmas.{attaches_idle-has}
+use Rattle.nm_calls.proofs.SyncOutLemmas.{asks_sync-has, asks_sync-stripe, attaches_idle-has, fails_sync-explained, fails_sync-has, fails_sync-keeps, late_sync-has, loses_sync-explained, loses_sync-has, loses_sync-keeps, syncs_out-explained, syncs_out-has, syncs_out-keeps}
 use Rattle.nm_rules.proofs.ChunkLemmas.{copy-is}
 use Rattle.nm_rules.proofs.LegLemmas.{calls-before}
 use Rattle.nm_rules.proofs.RecordLemmas.{one_or_two}
@@ -28,7 +28,7 @@ use Rattle.nm_rules.proofs.RunClaimLemmas.{claims_run-explained, claims_run-keep
 use Rattle.nm_calls.specs.AsAnswered.{KeepsCalls}
 use Rattle.nm_calls.specs.declared.read_out.ReadOut.{ReadOut}
 use Rattle.nm_calls.specs.Answers.{returned_on}
-use Rattle.nm_calls.specs.CallsOut.{Calling, CallsOut, LegCalls, count_out, find_read}
+use Rattle.nm_calls.specs.CallsOut.{Calling, CallsOut, LegCalls, count_out, find_read, SyncOut}
 use Rattle.nm_calls.specs.HasCalls.{HasCalls, IsStanding}
 use Rattle.nm_calls.proofs.TakenLemmas.{returned-at}
 use Rattle.nm_calls.proofs.AskLemmas.{asks-has, asks-stripe}
@@ -40,7 +40,7 @@ use Rattle.nm_calls.proofs.ReadOutLemmas.{ends-with, ends_out-explained, ends_ou
 use Rattle.nm_calls.proofs.StepsOverLemmas.{begins_out-has, claims_out-has, goes_out-has}
 use Rattle.nm_calls.proofs.VoidLemmas.{fails_out-explained, fails_out-has, fails_out-keeps, taken-has}
 use Rattle.nm_moves.specs.Laws.{NoneStops, marks}
-use Rattle.nm_moves.specs.Moves.{AnswersRead, AnswersWrite, AsksRead, AsksWrite, Attaches, Begins, Claims, ComesLate, EndsRead, EndsWrite, Fails, Finds, IsRefused, IsTakenOff, LateWriteOut, LosesLeg, Makes, Move, ReachesLeg, ReadEnds, StepOf, StopsStripe, TakesLegOut, WriteEnds}
+use Rattle.nm_moves.specs.Moves.{AnswersRead, AnswersSync, AnswersWrite, AsksRead, AsksSync, AsksWrite, EndsSync, SyncEnds, SyncIsGood, SyncIsRefused, SyncIsTakenOff, SyncTakesLegOut, Attaches, Begins, Claims, ComesLate, EndsRead, EndsWrite, Fails, Finds, IsRefused, IsTakenOff, LateWriteOut, LosesLeg, Makes, Move, ReachesLeg, ReadEnds, StepOf, StopsStripe, TakesLegOut, WriteEnds}
 use Rattle.nm_moves.specs.World.{Came}
 
 -- a read is found under its own ticket
@@ -208,6 +208,24 @@ module _ {L : Type 0} (type : LegType L) (is_honest : IsTrue type.honest) (old n
   }
   writes-leave run leg block blocks came ComesLate known step = late-leaves run leg block blocks known step came
 
+  syncs-leave : (x : SyncOut) (came : Came) (ends : SyncEnds) → EndsSync type x.ticket came ends old new → Leaves type (AnswersSync x came ends) old new
+  syncs-leave x came SyncIsGood step = record {
+    keeps = record { stripe = syncs_out-keeps type step.0 old new k.stripe k.calls step.3; calls = syncs_out-has type step.0 old new k.stripe k.calls step.3 };
+    explained = λ honest_is goes. syncs_out-explained type step.0 old new k.stripe k.calls step.3 honest_is;
+  }
+  syncs-leave x came SyncTakesLegOut step = record {
+    keeps = record { stripe = loses_sync-keeps type step.0 old new k.stripe k.calls step.3; calls = loses_sync-has type step.0 old new k.stripe k.calls step.3 };
+    explained = λ honest_is goes. loses_sync-explained type step.0 old new k.stripe k.calls step.3 honest_is;
+  }
+  syncs-leave x came SyncIsRefused step = record {
+    keeps = record { stripe = fails_sync-keeps type step.0 old new k.stripe k.calls step.3; calls = fails_sync-has type step.0 old new k.stripe k.calls step.3 };
+    explained = λ honest_is goes. fails_sync-explained type step.0 old new k.stripe k.calls step.3 honest_is;
+  }
+  syncs-leave x came SyncIsTakenOff step = record {
+    keeps = record { stripe = keeps-stripe step.2.stripe; calls = late_sync-has type step.0 old new k.stripe k.calls step.2 };
+    explained = λ honest_is goes. with-stripe [] refl step.2.stripe;
+  }
+
   pub step-leaves : (move : Move) → IsKnown move old → StepOf type move old new → Leaves type move old new
   step-leaves (AsksRead leg block count) known step =
       let stripe = asks-stripe type old new leg block count k.stripe k.calls step.0 step.1 in
@@ -221,11 +239,18 @@ module _ {L : Type 0} (type : LegType L) (is_honest : IsTrue type.honest) (old n
         keeps = record { stripe = keeps-stripe stripe; calls = asks_write-has type run leg old k.stripe k.calls new step.0 };
         explained = λ honest_is goes. with-stripe [] refl stripe;
       }
+  step-leaves (AsksSync leg asked_for counts) known step =
+      let stripe = asks_sync-stripe type old new leg asked_for step.0 in
+      record {
+        keeps = record { stripe = keeps-stripe stripe; calls = asks_sync-has type old new leg asked_for step.0 k.calls };
+        explained = λ honest_is goes. with-stripe [] refl stripe;
+      }
   step-leaves (Makes call came) known step =
       let stripe : new.stripe ≡ old.stripe = ap (λ (c : Calling L). c.stripe) step in
       record { keeps = subst (λ (c : Calling L). KeepsCalls type c) (sym step) k; explained = λ honest_is goes. with-stripe [] refl stripe }
   step-leaves (AnswersRead x came ends) known step = ends-leaves x came ends known step
   step-leaves (AnswersWrite run leg block blocks came ends) known step = writes-leave run leg block blocks came ends known step
+  step-leaves (AnswersSync x came ends) known step = syncs-leave x came ends step
   step-leaves (Begins block ds ticket) known step = record {
     keeps = record {
       stripe = begins_run-keeps type old.stripe new.stripe block ds ticket k.stripe step.0;

@@ -24,7 +24,7 @@ use Rattle.nm_calls.specs.CallsOut.{is_out_on}
 use Rattle.nm_calls.specs.HasCalls.{IsStanding}
 use Rattle.nm_calls.proofs.ReachedOutLemmas.{true-is}
 use Rattle.nm_calls.proofs.WriteOutLemmas.{never}
-use Rattle.nm_moves.specs.Moves.{ComesLate, EndsWrite, ReachesLeg, StopsStripe, TakesAnswer, TakesLegOut, WriteEnds, unbelieved}
+use Rattle.nm_moves.specs.Moves.{AnswersWrite, ComesLate, EndsWrite, ReachesLeg, StopsStripe, TakesAnswer, TakesLegOut, WriteEnds, unbelieved}
 use Rattle.nm_moves.specs.World.{Came, Out, World, Writes, made, writes_at}
 use Rattle.nm_moves.proofs.Faces.{faces-owed, same-from}
 use Rattle.nm_moves.proofs.FoundReads.{held}
@@ -48,7 +48,7 @@ writes-outside run leg block blocks k out =
     let high = t.high in
     ⊎_elim (λ before. let e : ⊥ = omega (arith, low, before) in e) (λ behind. let e : ⊥ = omega (arith, high, behind) in e) out)
 
-module _ {L : Type 0} (type : LegType L) (old new : World L) (s : InStep type old) (run leg block : ℕ) (blocks : List Block) (came : Came) (a : TakesAnswer type (Writes run leg block blocks) came old new) where
+module _ {L : Type 0} (type : LegType L) (old new : World L) (s : InStep type old) (run leg block : ℕ) (blocks : List Block) (came : Came) (told : WriteEnds) (a : TakesAnswer type (Writes run leg block blocks) came (AnswersWrite run leg block blocks came told) old new) where
   abbrev id : Leg → Leg
   id l = l
 

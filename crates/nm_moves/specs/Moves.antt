@@ -1,9 +1,11 @@
 -- What is done while calls are out: steps of the stripe, which make none, and the making of calls.
-use Rattle.std.specs.Prelude.{◌≡◌, ℕ, ◌<◌, true, false, List, [], ◌∷◌, ◌++◌, Some}
+use Rattle.std.specs.Prelude.{◌≡◌, ℕ, ◌<◌, ◌==◌, Bool, true, false, List, [], ◌∷◌, ◌++◌, Some}
 use Rattle.std.specs.Prelude.{length, map, if◌then◌else◌}
 use Rattle.nm_replay.specs.declared.block.Block.{Block}
 use Rattle.nm_fanout.specs.declared.record_data.RecordData.{RecordData}
 use Rattle.nm_leg.specs.Leg.{Leg, LegType, leg_type}
+use Rattle.nm_leg.specs.LegCalls.{SyncsLegAt}
+use Rattle.nm_rules.specs.Array.{contents_of}
 use Rattle.nm_rules.specs.Failing.{GoesOut}
 use Rattle.nm_rules.specs.Flushed.{durable_of}
 use Rattle.nm_rules.specs.RunBegin.{BeginsRun}
@@ -17,9 +19,12 @@ use Rattle.nm_calls.specs.Answers.{FailsOut, FindsOut, HaltsOut, LosesOut, Loses
 use Rattle.nm_calls.specs.Answers.{ReachesOut, calls_lost, read_answered, returned_on}
 use Rattle.nm_calls.specs.Asking.{AsksRead as AsksToRead, AsksWrite as AsksToWrite}
 use Rattle.nm_calls.specs.Asking.{next_read}
-use Rattle.nm_calls.specs.CallsOut.{Calling, find_read, is_out_on, is_read_on}
-use Rattle.nm_calls.specs.Syncing.{AttachesOut}
-use Rattle.nm_moves.specs.World.{Call, Came, Out, Reads, World, Writes, as_answered, as_it_is}
+use Rattle.nm_calls.specs.CallsOut.{Calling, LegCalls, SyncFor, SyncOut, find_read, is_out_on}
+use Rattle.nm_calls.specs.CallsOut.{is_read_on}
+use Rattle.nm_calls.specs.Syncing.{AsksSync as AsksToSync, AttachesOut, FailsSyncOut, LateSyncOut}
+use Rattle.nm_calls.specs.Syncing.{LosesSyncOut, SyncsOut, next_sync}
+use Rattle.nm_moves.specs.World.{Call, Came, Out, Reads, Syncs, World, Writes}
+use Rattle.nm_moves.specs.World.{as_answered, as_it_is}
 use Rattle.nm_moves.specs.World.{made, unmade, writes_at}
 
 -- what becomes of a read's answer: it takes effect, and its first entry has this number; its leg
@@ -40,13 +45,23 @@ pub data WriteEnds : Type 0 where
   StopsStripe : WriteEnds
   ComesLate : WriteEnds
 
+-- what becomes of a sync's answer: it was good, and perhaps its leg is in sync now; its leg failed,
+-- and goes out; its leg, the last in sync, failed; or it is only taken off
+pub data SyncEnds : Type 0 where
+  SyncIsGood : SyncEnds
+  SyncTakesLegOut : SyncEnds
+  SyncIsRefused : SyncEnds
+  SyncIsTakenOff : SyncEnds
+
 -- a call is asked for, made or answered; and steps that make no call
 pub data Move : Type 0 where
   AsksRead : (leg block count : ℕ) → Move
   AsksWrite : (run leg block : ℕ) → Move
+  AsksSync : (leg : ℕ) → SyncFor → LegCalls → Move
   Makes : Call → Came → Move
   AnswersRead : ReadOut → Came → ReadEnds → Move
   AnswersWrite : (run leg block : ℕ) → List Block → Came → WriteEnds → Move
+  AnswersSync : SyncOut → Came → SyncEnds → Move
   Begins : (block : ℕ) → List RecordData → (ticket : ℕ) → Move
   Claims : (ticket : ℕ) → EntryNames → Move
   Fails : (leg : ℕ) → Move
@@ -93,16 +108,31 @@ EndsWrite type run leg block blocks came StopsStripe old new =
 EndsWrite type run leg block blocks came ComesLate old new =
     LateWriteOut type run leg block blocks old new
 
+-- the stripe takes the answer of the sync of this ticket
+abbrev pub EndsSync : {L : Type 0} → LegType L → (ticket : ℕ) → Came → SyncEnds
+    → (old new : Calling L) → Type 0
+EndsSync type ticket came SyncIsGood old new =
+    (s : SyncOut) × (s.ticket ≡ ticket) × (came.done ≡ true) × SyncsOut type s old new
+EndsSync type ticket came SyncTakesLegOut old new =
+    (s : SyncOut) × (s.ticket ≡ ticket) × (came.done ≡ false) × LosesSyncOut type s old new
+EndsSync type ticket came SyncIsRefused old new =
+    (s : SyncOut) × (s.ticket ≡ ticket) × (came.done ≡ false) × FailsSyncOut type s old new
+EndsSync type ticket came SyncIsTakenOff old new =
+    (s : SyncOut) × (s.ticket ≡ ticket) × LateSyncOut s old new
+
 -- what a move does to the stripe and its calls, on legs of this type: a call is made by none
 abbrev pub StepOf : {L : Type 0} → LegType L → Move → (old new : Calling L) → Type 0
 StepOf type (AsksRead leg block count) old new =
     FitsRun old.stripe.place block count × AsksToRead old new leg block count
 StepOf type (AsksWrite run leg block) old new =
     (asks : AsksToWrite old new run leg) × (asks.block ≡ block)
+StepOf type (AsksSync leg asked_for counts) old new =
+    (asks : AsksToSync old new leg asked_for) × (asks.counts ≡ counts)
 StepOf type (Makes call came) old new = new ≡ old
 StepOf type (AnswersRead x came ends) old new = EndsRead type x.ticket came ends old new
 StepOf type (AnswersWrite run leg block blocks came ends) old new =
     EndsWrite type run leg block blocks came ends old new
+StepOf type (AnswersSync s came ends) old new = EndsSync type s.ticket came ends old new
 StepOf type (Begins block ds ticket) old new =
     BeginsRun old.stripe new.stripe block ds ticket × (new.calls ≡ old.calls)
 StepOf type (Claims ticket names) old new =
@@ -118,6 +148,7 @@ IsMade type (Reads x) came old new =
     × ReadsRunAt type came.done x.leg x.block came.found old new
 IsMade type (Writes run leg block blocks) came old new =
     WritesRunAt type came.done leg block blocks old new
+IsMade type (Syncs s) came old new = SyncsLegAt type came.done s.leg old new
 
 -- A call that is out, and was not made, is made: the legs as they are change, and nothing else.
 pub record MakesCall {L : Type 0} (type : LegType L) (call : Call) (came : Came)
@@ -128,8 +159,14 @@ pub record MakesCall {L : Type 0} (type : LegType L) (call : Call) (came : Came)
   pub is : new.out ≡ front ++ made call came ∷ back
   pub call_made : IsMade type call came old.legs new.legs
 
--- A call that was made is answered. The legs as answered have what it wrote now, as its leg has it.
-pub record TakesAnswer {L : Type 0} (type : LegType L) (call : Call) (came : Came)
+-- whether the answer is a sync's of this leg, and the sync was good
+abbrev pub is_synced : (leg : ℕ) → Move → Bool
+is_synced leg (AnswersSync s came SyncIsGood) = s.leg == leg
+is_synced leg move = false
+
+-- A call that was made is answered, by this move. The legs as answered have what it wrote now, as
+-- its leg has it; what they say is durable a good sync makes so now.
+pub record TakesAnswer {L : Type 0} (type : LegType L) (call : Call) (came : Came) (by : Move)
     (old new : World L) : Type 0 where
   pub front : List Out
   pub back : List Out
@@ -141,7 +178,8 @@ pub record TakesAnswer {L : Type 0} (type : LegType L) (call : Call) (came : Cam
   pub others : (leg block : ℕ) → writes_at leg block call ≡ false
       → as_answered new leg block ≡ as_answered old leg block
   pub durable : (leg : ℕ) → durable_of (λ l. l) new.calling.stripe.legs leg
-      ≡ durable_of (λ l. l) old.calling.stripe.legs leg
+      ≡ (if is_synced leg by then contents_of (λ l. l) old.calling.stripe.legs leg
+      else durable_of (λ l. l) old.calling.stripe.legs leg)
 
 -- nothing is made or answered, and these calls are handed out
 pub record HandsOut {L : Type 0} (calls : List Call) (old new : World L) : Type 0 where
@@ -161,10 +199,16 @@ CallsOf type (AsksRead leg block count) old new =
     HandsOut (Reads (next_read leg block count old.calling.calls) ∷ []) old new
 CallsOf type (AsksWrite run leg block) old new =
     HandsOut (asked_write run leg block old.calling) old new
+CallsOf type (AsksSync leg asked_for counts) old new =
+    HandsOut (Syncs (next_sync leg asked_for counts old.calling.calls) ∷ []) old new
 CallsOf type (Makes call came) old new = MakesCall type call came old new
-CallsOf type (AnswersRead x came ends) old new = TakesAnswer type (Reads x) came old new
+CallsOf type (AnswersRead x came ends) old new =
+    TakesAnswer type (Reads x) came (AnswersRead x came ends) old new
 CallsOf type (AnswersWrite run leg block blocks came ends) old new =
-    TakesAnswer type (Writes run leg block blocks) came old new
+    TakesAnswer type (Writes run leg block blocks) came
+    (AnswersWrite run leg block blocks came ends) old new
+CallsOf type (AnswersSync s came ends) old new =
+    TakesAnswer type (Syncs s) came (AnswersSync s came ends) old new
 CallsOf type (Begins block ds ticket) old new = HandsOut [] old new
 CallsOf type (Claims ticket names) old new = HandsOut [] old new
 CallsOf type (Fails leg) old new = HandsOut [] old new

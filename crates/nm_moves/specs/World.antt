@@ -8,12 +8,13 @@ use Rattle.nm_fanout.specs.Records.{is_among}
 use Rattle.nm_leg.specs.Leg.{Leg, LegType}
 use Rattle.nm_rules.specs.Array.{contents_of}
 use Rattle.nm_calls.specs.declared.read_out.ReadOut.{ReadOut}
-use Rattle.nm_calls.specs.CallsOut.{Calling}
+use Rattle.nm_calls.specs.CallsOut.{Calling, SyncOut}
 
--- a call of a leg: a read, or a run's write of these blocks, from this one on
+-- a call of a leg: a read, a run's write of these blocks, from this one on, or a sync
 pub data Call : Type 0 where
   Reads : ReadOut → Call
   Writes : (run leg block : ℕ) → List Block → Call
+  Syncs : SyncOut → Call
 
 -- what came of a call as it was made: whether it went well, and the blocks that a read found
 pub record Came : Type 0 where
@@ -44,6 +45,7 @@ abbrev pub writes_at : (leg block : ℕ) → Call → Bool
 writes_at leg block (Reads x) = false
 writes_at leg block (Writes run to first blocks) =
     (to == leg) && is_among first (length blocks) block
+writes_at leg block (Syncs s) = false
 
 -- whether a write of this block of this leg was made, and is not answered
 abbrev pub is_made_on : (leg block : ℕ) → List Out → Bool
