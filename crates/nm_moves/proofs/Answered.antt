@@ -21,14 +21,17 @@ use Rattle.nm_calls.specs.HasCalls.{IsStanding}
 use Rattle.nm_calls.proofs.ReadEndLemmas.{among}
 use Rattle.nm_calls.proofs.VoidLemmas.{taken-has}
 use Rattle.nm_calls.proofs.WriteLostLemmas.{returned-has}
-use Rattle.nm_moves.specs.Moves.{AnswersRead, AnswersWrite, Move, ComesLate, EndsRead, EndsWrite, Finds, IsRefused, IsTakenOff, LosesLeg, ReachesLeg, ReadEnds, StopsStripe, TakesAnswer, TakesLegOut, WriteEnds, unbelieved}
+use Rattle.nm_moves.specs.Calls.{TakesAnswer}
+use Rattle.nm_moves.specs.Ends.{ComesLate, EndsRead, EndsWrite, Finds, FindsStopped, IsRefused, IsTakenOff, LosesLeg, ReachesLeg, ReadEnds, StopsStripe, TakesLegOut, WriteEnds}
+use Rattle.nm_moves.specs.Moves.{AnswersRead, AnswersWrite, Move}
+use Rattle.nm_moves.specs.Runs.{unbelieved}
 use Rattle.nm_moves.specs.World.{Call, Came, Out, Reads, Syncs, World, Writes, made}
 use Rattle.nm_moves.proofs.Carried.{WereOut, push-clear, push-faces, push-states, stood, were-lost, were-over, were-same, writes-lost, writes-returned, writes-same}
 use Rattle.nm_moves.proofs.Faces.{faces}
 use Rattle.nm_moves.proofs.FoundReads.{CarriesReads}
 use Rattle.nm_moves.proofs.InTimes.{CarriesWrites, IsGone, is_of, lost-was, out-but_call}
 use Rattle.nm_moves.proofs.Kept.{Any, AreApart, CountsLate, Differ, InStep, IsKept, OtherThan, any-each, apart-of, apart-other, kept, one_on, still, writes_on}
-use Rattle.nm_moves.proofs.LateCounts.{CountsAs, OutIf, counts-by, gone-counts, late-counts, lost-counts, on-split, returned-counts, run-counts, taken-counts}
+use Rattle.nm_moves.proofs.LateCounts.{CountsAs, OutIf, counts-by, gone-counts, late-counts, lost-counts, on-split, returned-counts, run-counts, taken-counts, stopped-less}
 use Rattle.nm_moves.proofs.Outs.{Each, each-other, each-then}
 use Rattle.nm_moves.proofs.ReadAnswers.{ends-carry}
 use Rattle.nm_moves.proofs.Steps.{own-ticket}
@@ -180,6 +183,7 @@ module _ {L : Type 0} (type : LegType L) (is_honest : IsTrue type.honest) (old n
         by TakesLegOut t = were-lost c.calls.reads d.calls.reads leg c.stripe.master (ap (λ (n : CallsOut). n.reads) t.1.calls)
         by StopsStripe t = were-same c.calls.reads d.calls.reads (ap (λ (n : CallsOut). n.reads) t.1.calls)
         by ComesLate t = were-same c.calls.reads d.calls.reads (ap (λ (n : CallsOut). n.reads) t.calls)
+        by FindsStopped t = were-same c.calls.reads d.calls.reads (ap (λ (n : CallsOut). n.reads) t.calls)
 
     tickets : d.calls.tickets ≡ c.calls.tickets
     tickets = by ends step
@@ -189,6 +193,7 @@ module _ {L : Type 0} (type : LegType L) (is_honest : IsTrue type.honest) (old n
         by TakesLegOut t = ap (λ (n : CallsOut). n.tickets) t.1.calls
         by StopsStripe t = ap (λ (n : CallsOut). n.tickets) t.1.calls
         by ComesLate t = ap (λ (n : CallsOut). n.tickets) t.calls
+        by FindsStopped t = ap (λ (n : CallsOut). n.tickets) t.calls
 
     same-syncs : d.calls.syncs ≡ c.calls.syncs
     same-syncs = by ends step
@@ -198,6 +203,7 @@ module _ {L : Type 0} (type : LegType L) (is_honest : IsTrue type.honest) (old n
         by TakesLegOut t = ap (λ (n : CallsOut). n.syncs) t.1.calls
         by StopsStripe t = ap (λ (n : CallsOut). n.syncs) t.1.calls
         by ComesLate t = ap (λ (n : CallsOut). n.syncs) t.calls
+        by FindsStopped t = ap (λ (n : CallsOut). n.syncs) t.calls
 
     answer-reads : CarriesReads c d
     answer-reads = record {
@@ -227,6 +233,9 @@ module _ {L : Type 0} (type : LegType L) (is_honest : IsTrue type.honest) (old n
             let all = writes-same c d (ap (λ (n : StripeState Leg). n.states) t.stripe) (λ l k not_clear. ap (λ (n : StripeState Leg). is_clear l k n) t.stripe ∙ not_clear) (ap (λ (n : CallsOut). n.writes) t.calls)
             (λ r l first more w. ap (λ (n : StripeState Leg). faces r n.records) t.stripe) in
             record { writes = λ r l first more other w. all.writes r l first more tt w; late = λ r l first count other late. all.late r l first count tt late }
+        by FindsStopped t =
+            writes-returned c d (ap (λ (n : StripeState Leg). n.states) t.stripe) (λ l k not_clear. ap (λ (n : StripeState Leg). is_clear l k n) t.stripe ∙ not_clear) run leg (ap (λ (n : CallsOut). n.writes) t.calls)
+            (λ r. ap (λ (n : StripeState Leg). faces r n.records) t.stripe)
 
     other-of : (o : Call) → Differ (Writes run leg block blocks) o → OtherThan Other o
     other-of (Reads y) d = tt
@@ -283,6 +292,12 @@ module _ {L : Type 0} (type : LegType L) (is_honest : IsTrue type.honest) (old n
             (λ own. let one : one_on i (Writes run leg block blocks) ≡ 1 = ap (λ (b : Bool). cond {A = ℕ} b 1 0) (eq-eqb leg i own) in omega (arith, one-fewer i, one))
             (ap (λ (m : CallsOut). slice_get m.legs i) (sym t.calls) ∙ at) in
             let count : count_out i d.calls ≡ count_out i c.calls = ap (λ (m : CallsOut). count_out i m) t.calls in
+            inl (was, record { was = n.was; place = n.place; less = omega (arith, n.less, count) }))
+        by FindsStopped t =
+            counts-by c d old.out (a.front ++ a.back) s.counted (λ i l at gone.
+            let was : IsGone i c = ap (λ (n : StripeState Leg). is_out (leg_state i n)) (sym t.stripe) ∙ gone in
+            let n = stopped-less run leg c.calls i (writes_on i old.out) (writes_on i (a.front ++ a.back)) l t.out (omega (arith, one-fewer i)) (ap (λ (m : CallsOut). slice_get m.legs i) (sym t.calls) ∙ at) in
+            let count : count_out i d.calls ≡ count_out i (write_returned run leg c.calls) = ap (λ (m : CallsOut). count_out i m) t.calls in
             inl (was, record { was = n.was; place = n.place; less = omega (arith, n.less, count) }))
 
     pub answer-each : Each (IsKept type new.legs d) new.out

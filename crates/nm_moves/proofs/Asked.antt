@@ -26,7 +26,7 @@ use Rattle.nm_rules.proofs.RecordLemmas.{one_or_two}
 use Rattle.nm_calls.specs.HasCalls.{ask_write, hand_out_read, hand_out_write, counted_on, hand_out_sync, with_none_left}
 use Rattle.nm_calls.proofs.ApartLemmas.{counted-at, found-or-old}
 use Rattle.nm_calls.proofs.VoidingLemmas.{was-same}
-use Rattle.nm_moves.specs.Moves.{HandsOut, asked_write}
+use Rattle.nm_moves.specs.Calls.{HandsOut, asked_write}
 use Rattle.nm_moves.specs.World.{Call, Came, Out, Reads, Syncs, World, Writes, unmade}
 use Rattle.nm_moves.proofs.Carried.{reads-carry, were-same, writes-same}
 use Rattle.nm_moves.proofs.Faces.{faces, faces-owed}

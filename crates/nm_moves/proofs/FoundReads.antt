@@ -16,7 +16,7 @@ use Rattle.nm_calls.specs.HasCalls.{IsStanding}
 use Rattle.nm_calls.proofs.ReadEndLemmas.{among}
 use Rattle.nm_calls.proofs.ReachedOutLemmas.{true-is}
 use Rattle.nm_calls.proofs.VoidingLemmas.{WasOut, was-counts}
-use Rattle.nm_moves.specs.Moves.{unbelieved}
+use Rattle.nm_moves.specs.Runs.{unbelieved}
 use Rattle.nm_moves.specs.World.{Came}
 
 -- what the legs hold

@@ -14,7 +14,7 @@ use Rattle.nm_rules.proofs.AttachLemmas.{may_attach, set-other, set-same}
 use Rattle.nm_calls.specs.CallsOut.{Calling, CallsOut, count_out}
 use Rattle.nm_calls.specs.Syncing.{AttachesOut, calls_joined, opened}
 use Rattle.nm_calls.proofs.ReturnedLemmas.{on-leg_at}
-use Rattle.nm_moves.specs.Moves.{HandsOut}
+use Rattle.nm_moves.specs.Calls.{HandsOut}
 use Rattle.nm_moves.specs.World.{Call, Out, Reads, Syncs, World, Writes}
 use Rattle.nm_moves.proofs.Carried.{reads-carry, syncs-same, were-same}
 use Rattle.nm_moves.proofs.Faces.{faces}

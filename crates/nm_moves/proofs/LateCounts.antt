@@ -1,5 +1,5 @@
 -- A leg that has gone out counts its late writes too: each of them was one of its writes that are out.
-use Rattle.std.proofs.Common.{◌≡◌, ◌≢◌, ◌⊎◌, ⊎_elim, ℕ, ◌+◌, ◌≤◌, ◌==◌, ◌&&◌, ◌||◌, Bool, true, false, not, List, [], ◌∷◌, ◌++◌, Some, cond, count_by, filter, length, ◌/◌, sum_by, refl, sym, ap, ◌∙◌, arith, slice_get, eq-eqb, ne_eqb}
+use Rattle.std.proofs.Common.{◌≡◌, ◌≢◌, ◌⊎◌, ⊎_elim, ℕ, ◌+◌, ◌≤◌, ◌==◌, ◌&&◌, ◌||◌, Bool, true, false, not, List, [], ◌∷◌, ◌++◌, Some, cond, count_by, filter, length, ◌/◌, sum_by, refl, sym, ap, ◌∙◌, subst, arith, slice_get, eq-eqb, ne_eqb}
 use Rattle.std.specs.List.{list_any}
 use Rattle.std.proofs.lemmas.Bool.{and_parts}
 use Rattle.std.proofs.lemmas.List.Sums.{sum_by-append, sum_by-cons}
@@ -12,7 +12,7 @@ use Rattle.nm_rules.proofs.RecordLemmas.{one_or_two}
 use Rattle.nm_calls.specs.Answers.{calls_lost, closed, read_answered, reads_over, returned_on, run_answered, voided_without, write_returned, written_in}
 use Rattle.nm_calls.specs.declared.read_out.ReadOut.{ReadOut}
 use Rattle.nm_calls.specs.declared.write_out.WriteOut.{WriteOut}
-use Rattle.nm_calls.specs.CallsOut.{Calling, CallsOut, LegCalls, count_out, find_read, is_call_of, voided_at, without_write}
+use Rattle.nm_calls.specs.CallsOut.{Calling, CallsOut, LegCalls, count_out, is_out_on, find_read, is_call_of, voided_at, without_write}
 use Rattle.nm_calls.specs.HasCalls.{ask_write, hand_out_read, hand_out_write}
 use Rattle.nm_calls.proofs.ApartLemmas.{counted-at}
 use Rattle.nm_calls.proofs.ReturnedLemmas.{on-leg_at}
@@ -161,6 +161,21 @@ returned-counts run leg calls i n l ne at =
     let from = returned-at leg i calls.legs l at in
     let fewer = part-counts (λ w. (w.leg == i) && not w.waits) (λ w. not (is_call_of run leg w)) calls.writes in
     record { was = from.was; place = from.place; less = omega (arith, fewer, from.other ne) }
+
+-- a write of any leg that is out and is answered
+pub stopped-less : (run leg : ℕ) (calls : CallsOut) (i before after : ℕ) (l : LegCalls) → is_out_on leg run calls ≡ true → after ≤ before → slice_get (write_returned run leg calls).legs i ≡ Some l → CountsAs calls (write_returned run leg calls) i before after l
+stopped-less run leg calls i before after l out most at =
+    let from = returned-at leg i calls.legs l at in
+    ⊎_elim
+    (λ is.
+    let less = one-less run leg calls.writes out in
+    let here : count_by (λ w. (w.leg == i) && not w.waits) (without_write run leg calls.writes) + 1 ≤ count_by (λ w. (w.leg == i) && not w.waits) calls.writes =
+    subst (λ (n : ℕ). count_by (λ w. (w.leg == n) && not w.waits) (without_write run leg calls.writes) + 1 ≤ count_by (λ w. (w.leg == n) && not w.waits) calls.writes) is less in
+    record { was = from.was; place = from.place; less = omega (arith, here, from.most, most) })
+    (λ ne.
+    let n = returned-counts run leg calls i after l ne at in
+    record { was = n.was; place = n.place; less = omega (arith, n.less, most) })
+    (one_or_two leg i)
 
 -- and of one whose run reached it
 pub run-counts : (run leg block : ℕ) (s : StripeState Leg) (calls : CallsOut) (i n : ℕ) (l : LegCalls) → leg ≢ i → slice_get (run_answered run leg block s calls).legs i ≡ Some l → CountsAs calls (run_answered run leg block s calls) i n n l

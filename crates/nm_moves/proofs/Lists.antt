@@ -16,7 +16,10 @@ use Rattle.nm_rules.proofs.CauseLemmas.{none_holds, when_off}
 use Rattle.nm_calls.specs.AsAnswered.{answered}
 use Rattle.nm_calls.specs.CallsOut.{Calling, CallsOut}
 use Rattle.nm_moves.specs.Laws.{ActOnOneArray, CallsAreMadeAtTheirAnswers, Hold, MovesAct, NoneStops, Starts, concat}
-use Rattle.nm_moves.specs.Moves.{AnswersRead, AnswersSync, AnswersWrite, AsksRead, AsksSync, AsksWrite, Attaches, Begins, CallsOf, Claims, ComesLate, EndsWrite, Fails, Makes, Move, MoveOf, MovesRun, ReachesLeg, StepOf, StepsRun, StopsStripe, TakesAnswer, TakesLegOut, WriteEnds, unbelieved}
+use Rattle.nm_moves.specs.Calls.{CallsOf, TakesAnswer}
+use Rattle.nm_moves.specs.Ends.{ComesLate, FindsStopped, EndsWrite, ReachesLeg, StopsStripe, TakesLegOut, WriteEnds}
+use Rattle.nm_moves.specs.Moves.{AnswersRead, AnswersSync, AnswersWrite, AsksRead, AsksSync, AsksWrite, Attaches, Begins, Claims, Fails, Makes, Move, StepOf}
+use Rattle.nm_moves.specs.Runs.{MoveOf, MovesRun, StepsRun, unbelieved}
 use Rattle.nm_moves.specs.World.{AreAsAnswered, Came, Out, Reads, Syncs, World, Writes, made}
 use Rattle.nm_moves.proofs.Carried.{syncs-same, begins-faces, claims-faces, reads-carry, were-lost, were-same, writes-lost, writes-same}
 use Rattle.nm_moves.proofs.FoundReads.{held, known-block}
@@ -58,6 +61,7 @@ module _ {L : Type 0} (type : LegType L) (is_honest : IsTrue type.honest) (old n
   known-write run leg block blocks came ReachesLeg step a = tt
   known-write run leg block blocks came TakesLegOut step a = tt
   known-write run leg block blocks came StopsStripe step a = tt
+  known-write run leg block blocks came FindsStopped step a = tt
   known-write run leg block blocks came ComesLate step a =
       let late = is-late type old new s run leg block blocks came ComesLate a step.late in
       let split = on-split leg a.front (made (Writes run leg block blocks) came) a.back in
@@ -176,6 +180,7 @@ none-first (AnswersWrite run leg block blocks came ReachesLeg) moves none = (tt,
 none-first (AnswersWrite run leg block blocks came TakesLegOut) moves none = (tt, none)
 none-first (AnswersWrite run leg block blocks came StopsStripe) moves none = absurd none
 none-first (AnswersWrite run leg block blocks came ComesLate) moves none = (tt, none)
+none-first (AnswersWrite run leg block blocks came FindsStopped) moves none = absurd none
 none-first (Begins block ds ticket) moves none = (tt, none)
 none-first (Claims ticket names) moves none = (tt, none)
 none-first (Fails leg) moves none = (tt, none)

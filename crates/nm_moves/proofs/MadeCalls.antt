@@ -13,7 +13,7 @@ use Rattle.nm_rules.proofs.LegLemmas.{calls-after, calls-before}
 use Rattle.nm_rules.proofs.StateLemmas.{attached_inside}
 use Rattle.nm_calls.proofs.ReadEndLemmas.{among}
 use Rattle.nm_calls.proofs.WriteOutLemmas.{never}
-use Rattle.nm_moves.specs.Moves.{MakesCall}
+use Rattle.nm_moves.specs.Calls.{MakesCall}
 use Rattle.nm_moves.specs.World.{Call, Came, Out, Reads, Syncs, World, Writes, is_made_on, made, unmade, writes_at}
 use Rattle.nm_moves.proofs.FoundReads.{held, stands-too}
 use Rattle.nm_moves.proofs.InTimes.{InTime, IsGone, attached, inside, one-run}

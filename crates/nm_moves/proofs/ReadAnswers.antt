@@ -6,7 +6,10 @@ use Rattle.nm_calls.specs.Answers.{read_answered}
 use Rattle.nm_calls.specs.AsAnswered.{answered}
 use Rattle.nm_calls.specs.declared.read_out.ReadOut.{ReadOut}
 use Rattle.nm_calls.specs.CallsOut.{Calling, CallsOut, find_read}
-use Rattle.nm_moves.specs.Moves.{AnswersRead, EndsRead, Finds, IsRefused, IsTakenOff, LosesLeg, ReadEnds, TakesAnswer, unbelieved}
+use Rattle.nm_moves.specs.Calls.{TakesAnswer}
+use Rattle.nm_moves.specs.Ends.{EndsRead, Finds, IsRefused, IsTakenOff, LosesLeg, ReadEnds}
+use Rattle.nm_moves.specs.Moves.{AnswersRead}
+use Rattle.nm_moves.specs.Runs.{unbelieved}
 use Rattle.nm_moves.specs.World.{Came, Out, Reads, World, made}
 use Rattle.nm_moves.proofs.Carried.{reads-carry, syncs-same, were-taken, were-taken_lost}
 use Rattle.nm_moves.proofs.FoundReads.{CarriesReads, ReadKept, believed-read, counts-as, held}

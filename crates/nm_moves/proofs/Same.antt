@@ -10,7 +10,8 @@ use Rattle.nm_rules.specs.Array.{contents_of}
 use Rattle.nm_rules.specs.RunCalls.{ReadsRunAt, WritesRunAt}
 use Rattle.nm_rules.proofs.LegLemmas.{calls-after, calls-before, calls-other}
 use Rattle.nm_rules.proofs.RecordLemmas.{one_or_two}
-use Rattle.nm_moves.specs.Moves.{HandsOut, Move, IsMade, MakesCall, TakesAnswer}
+use Rattle.nm_moves.specs.Calls.{HandsOut, IsMade, MakesCall, TakesAnswer}
+use Rattle.nm_moves.specs.Moves.{Move}
 use Rattle.nm_moves.specs.World.{AreAsAnswered, Call, Came, Out, Reads, Syncs, World, Writes, as_answered, as_it_is, is_made_on, made, unmade, writes_at}
 use Rattle.nm_moves.proofs.Outs.{any-without, none-of-all, none-unmade}
 use Rattle.nm_moves.proofs.FoundReads.{held}

@@ -1,5 +1,5 @@
 -- Each step keeps what holds of a stripe and of its calls, and is explained by its begins and replies.
-use Rattle.std.proofs.Common.{◌≡◌, ℕ, ◌==◌, true, false, IsTrue, List, [], ◌∷◌, Some, cond, refl, sym, ap, ◌∙◌, subst, ◌≢◌, ⊎_elim, ◌+◌, ◌<◌, ◌≤◌, length, Option, arith, slice_get}
+use Rattle.std.proofs.Common.{◌≡◌, ℕ, ◌==◌, true, false, IsTrue, List, [], ◌∷◌, Some, cond, refl, sym, ap, ◌∙◌, subst, ◌≢◌, ⊎_elim, ◌+◌, ◌<◌, ◌≤◌, length, Option, arith, slice_get, Bool}
 use Rattle.std.proofs.lemmas.Bool.{both_ways, eqb-true}
 use Rattle.std.proofs.lemmas.Option.{same_Some, slice_get_within}
 use Rattle.nm_replay.specs.declared.block.Block.{Block}
@@ -18,7 +18,8 @@ use Rattle.nm_rules.proofs.ActsLemmas.{explained-stays}
 use Rattle.nm_rules.proofs.AttachLemmas.{attach-acts, attach-keeps, may_attach}
 use Rattle.nm_calls.proofs.SyncOutLemmas.{asks_sync-has, asks_sync-stripe, attaches_idle-has, fails_sync-explained, fails_sync-has, fails_sync-keeps, late_sync-has, loses_sync-explained, loses_sync-has, loses_sync-keeps, syncs_out-explained, syncs_out-has, syncs_out-keeps}
 use Rattle.nm_rules.proofs.ChunkLemmas.{copy-is}
-use Rattle.nm_rules.proofs.LegLemmas.{calls-before}
+use Rattle.nm_rules.proofs.LegLemmas.{calls-before, calls-length, calls-lengths}
+use Rattle.nm_rules.proofs.HaltLemmas.{stop-keeps}
 use Rattle.nm_rules.proofs.RecordLemmas.{one_or_two}
 use Rattle.nm_rules.proofs.RelabelLemmas.{current-attached}
 use Rattle.nm_rules.proofs.SwapLemmas.{MaySwap, array-same, swap-acts, swap-keeps}
@@ -27,20 +28,21 @@ use Rattle.nm_rules.proofs.RunBeginLemmas.{begins_run-explained, begins_run-keep
 use Rattle.nm_rules.proofs.RunClaimLemmas.{claims_run-explained, claims_run-keeps}
 use Rattle.nm_calls.specs.AsAnswered.{KeepsCalls}
 use Rattle.nm_calls.specs.declared.read_out.ReadOut.{ReadOut}
-use Rattle.nm_calls.specs.Answers.{returned_on}
+use Rattle.nm_calls.specs.Answers.{returned_on, write_returned}
 use Rattle.nm_calls.specs.CallsOut.{Calling, CallsOut, LegCalls, count_out, find_read, SyncOut}
 use Rattle.nm_calls.specs.HasCalls.{HasCalls, IsStanding}
 use Rattle.nm_calls.proofs.TakenLemmas.{returned-at}
 use Rattle.nm_calls.proofs.AskLemmas.{asks-has, asks-stripe}
 use Rattle.nm_calls.proofs.AskWriteLemmas.{asks_write-has, asks_write-stripe}
 use Rattle.nm_calls.proofs.ReachedOutLemmas.{reaches_out-explained, reaches_out-has, reaches_out-keeps}
-use Rattle.nm_calls.proofs.WriteLostLemmas.{halts_out-has, halts_out-keeps, loses_write-explained, loses_write-has, loses_write-keeps}
+use Rattle.nm_calls.proofs.WriteLostLemmas.{halts_out-has, halts_out-keeps, loses_write-explained, loses_write-has, loses_write-keeps, returned-has}
 use Rattle.nm_calls.proofs.ReadLostLemmas.{goes-with, loses_out-explained, loses_out-has, loses_out-keeps}
 use Rattle.nm_calls.proofs.ReadOutLemmas.{ends-with, ends_out-explained, ends_out-has, ends_out-keeps}
 use Rattle.nm_calls.proofs.StepsOverLemmas.{begins_out-has, claims_out-has, goes_out-has}
 use Rattle.nm_calls.proofs.VoidLemmas.{fails_out-explained, fails_out-has, fails_out-keeps, taken-has}
 use Rattle.nm_moves.specs.Laws.{NoneStops, marks}
-use Rattle.nm_moves.specs.Moves.{AnswersRead, AnswersSync, AnswersWrite, AsksRead, AsksSync, AsksWrite, EndsSync, SyncEnds, SyncIsGood, SyncIsRefused, SyncIsTakenOff, SyncTakesLegOut, Attaches, Begins, Claims, ComesLate, EndsRead, EndsWrite, Fails, Finds, IsRefused, IsTakenOff, LateWriteOut, LosesLeg, Makes, Move, ReachesLeg, ReadEnds, StepOf, StopsStripe, TakesLegOut, WriteEnds}
+use Rattle.nm_moves.specs.Ends.{EndsSync, SyncEnds, SyncIsGood, SyncIsRefused, SyncIsTakenOff, SyncTakesLegOut, ComesLate, EndsRead, EndsWrite, Finds, FindsStopped, StoppedWriteOut, IsRefused, IsTakenOff, LateWriteOut, LosesLeg, ReachesLeg, ReadEnds, StopsStripe, TakesLegOut, WriteEnds}
+use Rattle.nm_moves.specs.Moves.{AnswersRead, AnswersSync, AnswersWrite, AsksRead, AsksSync, AsksWrite, Attaches, Begins, Claims, Fails, Makes, Move, StepOf}
 use Rattle.nm_moves.specs.World.{Came}
 
 -- a read is found under its own ticket
@@ -193,6 +195,47 @@ module _ {L : Type 0} (type : LegType L) (is_honest : IsTrue type.honest) (old n
           (record { events = []; marked = refl; acts = swap-acts type s leg part may-swap });
     }
 
+  -- of a stripe that has stopped no more is known of what its legs hold
+  module _ (run leg block : ℕ) (blocks : List Block) (f : StoppedWriteOut type run leg block blocks old new) where
+    abbrev legs_now : List L
+    legs_now = new.stripe.legs
+
+    abbrev on_legs : StripeState L
+    on_legs = record old.stripe { legs = legs_now }
+
+    stopped-keeps : Keeps type new.stripe
+    stopped-keeps =
+        let r = f.writes in
+        let all = stop-keeps type old.stripe legs_now k.stripe (calls-length type.model old.stripe.legs legs_now leg r.before r.after r.change) (λ j. calls-lengths type.model false old.stripe.legs legs_now leg j r.before r.after r.change r.writes.calls) in
+        let is : new.stripe ≡ record old.stripe { legs = legs_now; stopped = true } =
+        f.stripe ∙ ap (λ (b : Bool). let n : StripeState L = record old.stripe { legs = legs_now; stopped = b } in n) f.stopped in
+        subst (λ (n : StripeState L). Keeps type n) (sym is) all
+
+    stopped-has : HasCalls type (record { stripe = on_legs; calls = write_returned run leg old.calls })
+    stopped-has =
+        let has : HasCalls type (record old { calls = write_returned run leg old.calls }) = returned-has type run leg old k.calls f.out in
+        record {
+          owed = has.owed;
+          asked = has.asked;
+          named = has.named;
+          runs = has.runs;
+          tickets = has.tickets;
+          current = has.current;
+          apart = has.apart;
+          reads_hold = λ honest_is runs. absurd (both_ways old.stripe.stopped runs f.stopped);
+          chunk = has.chunk;
+          counted = has.counted;
+        }
+
+    stopped-leaves : (came : Came) → Leaves type (AnswersWrite run leg block blocks came FindsStopped) old new
+    stopped-leaves came = record {
+      keeps = record {
+        stripe = stopped-keeps;
+        calls = with-calls (write_returned run leg old.calls) f.calls (subst (λ (n : StripeState L). HasCalls type (record { stripe = n; calls = write_returned run leg old.calls })) (sym f.stripe) stopped-has);
+      };
+      explained = λ honest_is stops. absurd stops;
+    }
+
   writes-leave : (run leg block : ℕ) (blocks : List Block) (came : Came) (ends : WriteEnds) → IsKnown (AnswersWrite run leg block blocks came ends) old → EndsWrite type run leg block blocks came ends old new → Leaves type (AnswersWrite run leg block blocks came ends) old new
   writes-leave run leg block blocks came ReachesLeg known step = record {
     keeps = record { stripe = reaches_out-keeps type run leg old new k.stripe k.calls step.1; calls = reaches_out-has type run leg old new k.stripe k.calls step.1 };
@@ -207,6 +250,7 @@ module _ {L : Type 0} (type : LegType L) (is_honest : IsTrue type.honest) (old n
     explained = λ honest_is stops. absurd stops;
   }
   writes-leave run leg block blocks came ComesLate known step = late-leaves run leg block blocks known step came
+  writes-leave run leg block blocks came FindsStopped known step = stopped-leaves run leg block blocks step came
 
   syncs-leave : (x : SyncOut) (came : Came) (ends : SyncEnds) → EndsSync type x.ticket came ends old new → Leaves type (AnswersSync x came ends) old new
   syncs-leave x came SyncIsGood step = record {

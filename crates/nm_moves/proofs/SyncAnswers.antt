@@ -28,7 +28,10 @@ use Rattle.nm_calls.specs.Syncing.{CountsSync, LosesSyncOut, SyncsOut, covered_b
 use Rattle.nm_calls.proofs.ReturnedLemmas.{on-leg_at}
 use Rattle.nm_calls.proofs.SyncOutLemmas.{sync_answered-has}
 use Rattle.nm_calls.proofs.TakenLemmas.{returned-at}
-use Rattle.nm_moves.specs.Moves.{AnswersSync, EndsSync, SyncEnds, SyncIsGood, SyncIsRefused, SyncIsTakenOff, SyncTakesLegOut, TakesAnswer, unbelieved}
+use Rattle.nm_moves.specs.Calls.{TakesAnswer}
+use Rattle.nm_moves.specs.Ends.{EndsSync, SyncEnds, SyncIsGood, SyncIsRefused, SyncIsTakenOff, SyncTakesLegOut}
+use Rattle.nm_moves.specs.Moves.{AnswersSync}
+use Rattle.nm_moves.specs.Runs.{unbelieved}
 use Rattle.nm_moves.specs.World.{Came, Out, Syncs, World, made}
 use Rattle.nm_moves.proofs.Answered.{lost-counted, out-each}
 use Rattle.nm_moves.proofs.Carried.{reads-carry, were-lost, were-same, writes-lost, writes-same}

@@ -1,5 +1,5 @@
 -- A write's call is answered: it is as if it were made then, on the legs as they were answered.
-use Rattle.std.proofs.Common.{◌≡◌, inl, ⊎_elim, ℕ, ◌+◌, ◌-◌, ◌<◌, ◌≤◌, ◌==◌, ◌&&◌, Bool, true, false, List, ◌∷◌, Some, length, refl, sym, ap, ◌∙◌, subst, arith, slice_get, nat_lt, eq-eqb, ◌⊎◌, inr}
+use Rattle.std.proofs.Common.{◌≡◌, ⊎_elim, ℕ, ◌+◌, ◌-◌, ◌<◌, ◌≤◌, ◌==◌, ◌&&◌, Bool, true, false, List, ◌∷◌, Some, length, refl, sym, ap, ◌∙◌, subst, arith, slice_get, nat_lt, eq-eqb}
 use Rattle.std.proofs.lemmas.Bool.{both_ways, le-leb, lt-ltb}
 use Rattle.nm_replay.specs.declared.block.Block.{Block}
 use Rattle.nm_replay.specs.Array.{Array}
@@ -24,7 +24,10 @@ use Rattle.nm_calls.specs.CallsOut.{is_out_on}
 use Rattle.nm_calls.specs.HasCalls.{IsStanding}
 use Rattle.nm_calls.proofs.ReachedOutLemmas.{true-is}
 use Rattle.nm_calls.proofs.WriteOutLemmas.{never}
-use Rattle.nm_moves.specs.Moves.{AnswersWrite, ComesLate, EndsWrite, ReachesLeg, StopsStripe, TakesAnswer, TakesLegOut, WriteEnds, unbelieved}
+use Rattle.nm_moves.specs.Calls.{TakesAnswer}
+use Rattle.nm_moves.specs.Ends.{ComesLate, EndsWrite, FindsStopped, ReachesLeg, StopsStripe, TakesLegOut, WriteEnds}
+use Rattle.nm_moves.specs.Moves.{AnswersWrite}
+use Rattle.nm_moves.specs.Runs.{unbelieved}
 use Rattle.nm_moves.specs.World.{Came, Out, World, Writes, made, writes_at}
 use Rattle.nm_moves.proofs.Faces.{faces-owed, same-from}
 use Rattle.nm_moves.proofs.FoundReads.{held}
@@ -143,16 +146,28 @@ module _ {L : Type 0} (type : LegType L) (old new : World L) (s : InStep type ol
       (subst (λ (n : ℕ). WritesRunAt unbelieved done leg n blocks was now) (sym l.block_is)
       (subst (λ (xs : List Block). WritesRunAt unbelieved done leg f.block xs was now) (sym l.blocks_are) f.writes))))
 
-  -- the leg of a call that is not late is attached
-  pub in-time : (ends : WriteEnds) → EndsWrite unbelieved run leg block blocks came ends old.calling new.calling → (IsGone leg old.calling → ⊥) ⊎ (is_out_on leg run old.calling.calls ≡ false)
-  in-time ReachesLeg step = inl (not-gone true now step.1.out step.1.stripe.called)
-  in-time TakesLegOut step = inl (not-gone false now step.1.out step.1.stripe.called)
-  in-time StopsStripe step = inl (not-gone false now step.1.out step.1.stripe.called)
-  in-time ComesLate step = inr step.late
-
-  -- and a call that the stripe does not know is late
+  -- a call that the stripe does not know is late
   pub is-late : is_out_on leg run old.calling.calls ≡ false → IsLate old.calling leg block (length blocks)
   is-late none = ⊎_elim (λ w. absurd (both_ways (is_out_on leg run old.calling.calls) none w.0.out)) (λ late. late) mine
+
+  -- any bytes are left in its blocks
+  believed-any : WritesRunAt unbelieved false leg block blocks was now → WritesRunAt answered false leg block blocks was now
+  believed-any r =
+      let before : held was leg ≡ r.before.contents = calls-before id was now leg r.before r.after r.change in
+      let after : held now leg ≡ r.after.contents = calls-after id was now leg r.before r.after r.change in
+      record {
+        before = r.before;
+        after = r.after;
+        change = r.change;
+        writes = record {
+          calls = r.writes.calls;
+          written = λ _ never_is. absurd (let e : ⊥ = cc in e);
+          others = λ _ k out.
+              ap (λ (xs : Array). slice_get xs k) (sym after) ∙ a.others leg k (writes-outside run leg block blocks k out) ∙ ap (λ (xs : Array). slice_get xs k) before;
+          durable_others = λ _ k out.
+              ap (λ (xs : Array). slice_get xs k) (sym (calls-durable_after id was now leg r.before r.after r.change) ∙ a.durable leg ∙ calls-durable_before id was now leg r.before r.after r.change);
+        };
+      }
 
   -- the step is one on honest legs
   pub believed-ends_write : (ends : WriteEnds) → EndsWrite unbelieved run leg block blocks came ends old.calling new.calling → EndsWrite answered run leg block blocks came ends old.calling new.calling
@@ -194,28 +209,8 @@ module _ {L : Type 0} (type : LegType L) (old new : World L) (s : InStep type ol
           calls = f.calls;
         },
       )
-  believed-ends_write ComesLate step =
-      let r = step.writes in
-      let before : held was leg ≡ r.before.contents = calls-before id was now leg r.before r.after r.change in
-      let after : held now leg ≡ r.after.contents = calls-after id was now leg r.before r.after r.change in
-      record {
-        late = step.late;
-        writes = record {
-          before = r.before;
-          after = r.after;
-          change = r.change;
-          writes = record {
-            calls = r.writes.calls;
-            written = λ _ never_is. absurd (let e : ⊥ = cc in e);
-            others = λ _ k out.
-                ap (λ (xs : Array). slice_get xs k) (sym after) ∙ a.others leg k (writes-outside run leg block blocks k out) ∙ ap (λ (xs : Array). slice_get xs k) before;
-            durable_others = λ _ k out.
-                ap (λ (xs : Array). slice_get xs k) (sym (calls-durable_after id was now leg r.before r.after r.change) ∙ a.durable leg ∙ calls-durable_before id was now leg r.before r.after r.change);
-          };
-        };
-        stripe = step.stripe;
-        calls = step.calls;
-      }
+  believed-ends_write ComesLate step = record { late = step.late; writes = believed-any step.writes; stripe = step.stripe; calls = step.calls }
+  believed-ends_write FindsStopped step = record { out = step.out; stopped = step.stopped; writes = believed-any step.writes; stripe = step.stripe; calls = step.calls }
 
   -- where a read counts the legs stay
   pub write-stays : (x : ReadOut) (k : ℕ) → IsStanding x.ticket x k old.calling.calls → slice_get (held now x.leg) k ≡ slice_get (held was x.leg) k

@@ -12,8 +12,9 @@ use Rattle.nm_rules.specs.RunRead.{marks_of_reads}
 use Rattle.nm_rules.specs.State.{is_current}
 use Rattle.nm_calls.specs.AsAnswered.{KeepsCalls, answered}
 use Rattle.nm_calls.specs.CallsOut.{Calling}
-use Rattle.nm_moves.specs.Moves.{AnswersRead, AnswersWrite, Begins, Claims, Finds, Move}
-use Rattle.nm_moves.specs.Moves.{MovesRun, StepsRun, StopsStripe}
+use Rattle.nm_moves.specs.Ends.{Finds, FindsStopped, StopsStripe}
+use Rattle.nm_moves.specs.Moves.{AnswersRead, AnswersWrite, Begins, Claims, Move}
+use Rattle.nm_moves.specs.Runs.{MovesRun, StepsRun}
 use Rattle.nm_moves.specs.World.{AreAsAnswered, World, as_it_is}
 
 -- what holds at first: no call is out, the stripe keeps what every stripe keeps, and its legs are
@@ -78,10 +79,11 @@ pub record ActOnOneArray (moves : List Move) (old new : Calling Leg) : Type 0 wh
   pub interleaving : IsInterleaving moves events_of_each
   pub acts : Acts (λ leg. leg) old.stripe new.stripe (concat events_of_each)
 
--- no move stops the stripe
+-- no move stops the stripe, or answers a write once it has stopped
 abbrev pub NoneStops : List Move → Type 0
 NoneStops [] = Unit {0}
 NoneStops (AnswersWrite run leg block blocks came StopsStripe ∷ moves) = ⊥
+NoneStops (AnswersWrite run leg block blocks came FindsStopped ∷ moves) = ⊥
 NoneStops (move ∷ moves) = NoneStops moves
 
 -- So it is after any moves that do not stop the stripe.

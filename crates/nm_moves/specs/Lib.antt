@@ -1,3 +1,6 @@
+pub mod Calls
+pub mod Ends
 pub mod Laws
 pub mod Moves
+pub mod Runs
 pub mod World
