@@ -1,6 +1,7 @@
 pub mod Answered
 pub mod Asked
 pub mod Carried
+pub mod Durable
 pub mod Faces
 pub mod FoundReads
 pub mod InTimes

@@ -187,7 +187,7 @@ none-first (Fails leg) moves none = (tt, none)
 none-first (Attaches leg) moves none = (tt, none)
 
 module _ {L : Type 0} (type : LegType L) (is_honest : IsTrue type.honest) where
-  starts : (w : World L) → Starts type w → InStep type w
+  pub starts : (w : World L) → Starts type w → InStep type w
   starts w s = record {
     keeps = s.keeps;
     same = s.same;
@@ -206,7 +206,7 @@ module _ {L : Type 0} (type : LegType L) (is_honest : IsTrue type.honest) where
         made-all moves mid new (goes type is_honest old mid s move runs.1) runs.2,
       )
 
-  hold-all : (moves : List Move) (old new : World L) → InStep type old → MovesRun type moves old new → InStep type new
+  pub hold-all : (moves : List Move) (old new : World L) → InStep type old → MovesRun type moves old new → InStep type new
   hold-all [] old new s runs = subst (λ (w : World L). InStep type w) (sym runs) s
   hold-all (move ∷ moves) old new s runs = hold-all moves runs.0 new (goes type is_honest old runs.0 s move runs.1) runs.2
 

@@ -6,16 +6,19 @@ use Rattle.nm_leg.specs.Leg.{Leg, LegType}
 use Rattle.nm_fanout.specs.Records.{busy_on}
 use Rattle.nm_rules.specs.Acts.{Acts}
 use Rattle.nm_rules.specs.Array.{stripe_array}
+use Rattle.nm_rules.specs.Flushed.{durable_of}
 use Rattle.nm_rules.specs.RunBegin.{begins_of, puts_of}
 use Rattle.nm_rules.specs.RunClaim.{replies_of}
 use Rattle.nm_rules.specs.RunRead.{marks_of_reads}
 use Rattle.nm_rules.specs.State.{is_current}
 use Rattle.nm_calls.specs.AsAnswered.{KeepsCalls, answered}
-use Rattle.nm_calls.specs.CallsOut.{Calling}
-use Rattle.nm_moves.specs.Ends.{Finds, FindsStopped, StopsStripe}
-use Rattle.nm_moves.specs.Moves.{AnswersRead, AnswersWrite, Begins, Claims, Move}
-use Rattle.nm_moves.specs.Runs.{MovesRun, StepsRun}
-use Rattle.nm_moves.specs.World.{AreAsAnswered, World, as_it_is}
+use Rattle.nm_calls.specs.CallsOut.{Calling, LegCalls, SyncFor}
+use Rattle.nm_calls.specs.Syncing.{next_sync}
+use Rattle.nm_moves.specs.Ends.{Finds, FindsStopped, StopsStripe, SyncIsGood}
+use Rattle.nm_moves.specs.Moves.{AnswersRead, AnswersSync, AnswersWrite, AsksSync, Begins, Claims}
+use Rattle.nm_moves.specs.Moves.{Makes, Move}
+use Rattle.nm_moves.specs.Runs.{MoveOf, MovesRun, StepsRun}
+use Rattle.nm_moves.specs.World.{AreAsAnswered, Came, World, as_it_is, writes_at}
 
 -- what holds at first: no call is out, the stripe keeps what every stripe keeps, and its legs are
 -- as they were answered
@@ -91,3 +94,37 @@ abbrev pub MovesAct : {L : Type 0} → LegType L → Type 0
 MovesAct {L} type =
     (moves : List Move) (old new : World L) → Starts type old → MovesRun type moves old new
     → NoneStops moves → ActOnOneArray moves old.calling new.calling
+
+-- the move makes no write of this block of this leg
+abbrev pub LeavesBlock : (leg block : ℕ) → Move → Type 0
+LeavesBlock leg block (Makes call came) = writes_at leg block call ≡ false
+LeavesBlock leg block move = Unit {0}
+
+-- so it is with each of these
+abbrev pub LeaveBlock : (leg block : ℕ) → List Move → Type 0
+LeaveBlock leg block [] = Unit {0}
+LeaveBlock leg block (move ∷ moves) = LeavesBlock leg block move × LeaveBlock leg block moves
+
+-- A sync of this leg is asked for; moves are done that make no write of this block there; and the
+-- sync is answered, and was good.
+pub record SyncsOver {L : Type 0} (type : LegType L) (leg block : ℕ) (old new : World L)
+    : Type 0 where
+  pub asked_for : SyncFor
+  pub counts : LegCalls
+  pub came : Came
+  pub moves : List Move
+  pub first : World L
+  pub last : World L
+  pub asks : MoveOf type (AsksSync leg asked_for counts) old first
+  pub runs : MovesRun type moves first last
+  pub leaves : LeaveBlock leg block moves
+  pub answers : MoveOf type
+      (AnswersSync (next_sync leg asked_for counts old.calling.calls) came SyncIsGood) last new
+
+-- Then the leg as it is has the block durably, as reads find it: whatever was answered before the
+-- sync was asked for, and not written since, a good sync makes durable.
+abbrev pub SyncsCover : {L : Type 0} → LegType L → Type 0
+SyncsCover {L} type =
+    (moves : List Move) (start old new : World L) (leg block : ℕ) → Starts type start
+    → MovesRun type moves start old → SyncsOver type leg block old new
+    → slice_get (durable_of type.model new.legs leg) block ≡ as_it_is type new leg block

@@ -1,7 +1,7 @@
 //! What holds of a stripe while calls are out, for every list of moves.
 ghost use Rattle.std.specs.Prelude.{IsTrue};
 ghost use Rattle.nm_leg.specs.Leg.{leg_type};
-ghost use Rattle.nm_moves.specs.Laws.{CallsAreMadeAtTheirAnswers, Hold, MovesAct};
+ghost use Rattle.nm_moves.specs.Laws.{CallsAreMadeAtTheirAnswers, Hold, MovesAct, SyncsCover};
 
 use nm_leg::LegPart;
 
@@ -19,4 +19,10 @@ pub fn hold<L: LegPart>()
 /// The stripe's operations act on one array, each at an answer or a failover.
 pub fn acts<L: LegPart>()
     ensures { IsTrue L.honest → MovesAct (leg_type L.model L.honest) }
+{}
+
+/// What was answered of a leg before a sync was asked for, and not written since, a good sync makes
+/// durable.
+pub fn syncs_cover<L: LegPart>()
+    ensures { IsTrue L.honest → SyncsCover (leg_type L.model L.honest) }
 {}
