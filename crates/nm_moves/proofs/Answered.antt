@@ -105,7 +105,7 @@ module _ {L : Type 0} (type : LegType L) (is_honest : IsTrue type.honest) (old n
 
   -- a read is answered
   module _ (x : ReadOut) (came : Came) (ends : ReadEnds) (step : EndsRead unbelieved x.ticket came ends c d) (a : TakesAnswer type (Reads x) came (AnswersRead x came ends) old new) where
-    read-writes : CarriesWrites Any c d
+    pub read-writes : CarriesWrites Any c d
     read-writes = by ends step
       where
         by : (e : ReadEnds) → EndsRead unbelieved x.ticket came e c d → CarriesWrites Any c d
@@ -216,7 +216,7 @@ module _ {L : Type 0} (type : LegType L) (is_honest : IsTrue type.honest) (old n
           write-stays type old new s run leg block blocks came ends a y k (stood c d were y.ticket k y there);
     }
 
-    answer-writes : CarriesWrites Other c d
+    pub answer-writes : CarriesWrites Other c d
     answer-writes = by ends step
       where
         by : (e : WriteEnds) → EndsWrite unbelieved run leg block blocks came e c d → CarriesWrites Other c d

@@ -120,7 +120,7 @@ module _ {L : Type 0} (type : LegType L) (is_honest : IsTrue type.honest) (old n
     asked-reads : CarriesReads c d
     asked-reads = subst (λ (n : Calling Leg). CarriesReads c n) (sym asks.after) (handed-reads x c refl)
 
-    asked-writes : CarriesWrites Any c d
+    pub asked-writes : CarriesWrites Any c d
     asked-writes =
         writes-same c d (ap (λ (n : Calling Leg). n.stripe.states) asks.after) (λ l k not_clear. ap (λ (n : Calling Leg). is_clear l k n.stripe) asks.after ∙ not_clear) (ap (λ (n : Calling Leg). n.calls.writes) asks.after)
         (λ run to first blocks w. ap (λ (n : Calling Leg). faces run n.stripe.records) asks.after)
@@ -190,7 +190,7 @@ module _ {L : Type 0} (type : LegType L) (is_honest : IsTrue type.honest) (old n
         (reads-carry c (ask_write run leg c) refl (were-same c.calls.reads c.calls.reads refl) (λ t y at. at) (λ j. refl))
         (reads-carry c (hand_out_write run leg c) refl (were-same c.calls.reads c.calls.reads refl) (λ t y at. at) (λ j. refl))
 
-    write-writes : CarriesWrites Any c d
+    pub write-writes : CarriesWrites Any c d
     write-writes =
         by-waiting (λ n cs. CarriesWrites Any c n)
         (one-more c run leg asks.once (record { run = run; leg = leg; waits = true }) (ask_write run leg c) refl refl)
@@ -298,6 +298,9 @@ module _ {L : Type 0} (type : LegType L) (is_honest : IsTrue type.honest) (old n
             let none : own sync ≡ 0 = ap (λ (b : Bool). cond {A = ℕ} b 1 0) (ne_eqb leg i ne) in
             record { was = from.was; place = from.place; less = omega (arith, step, none, from.least, over.same) })
             (one_or_two leg i)
+
+    pub asked_sync-writes : CarriesWrites Any c d
+    asked_sync-writes = subst (λ (n : Calling Leg). CarriesWrites Any c n) (sym asks.after) sent-writes
 
     sync-out : new.out ≡ unmade (Syncs sync) ∷ old.out
     sync-out = h.out ∙ ap (λ (n : LegCalls). unmade (Syncs (next_sync leg asked_for n c.calls)) ∷ old.out) (sym at)

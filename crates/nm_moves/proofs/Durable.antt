@@ -1,13 +1,15 @@
 -- A good sync was made after its hand-out: what its leg had then, and no write changed since, is
 -- durable as reads find it.
-use Rattle.std.proofs.Common.{◌≡◌, ⊎_elim, ℕ, ◌+◌, ◌<◌, ◌≤◌, ◌==◌, ◌&&◌, Bool, true, false, IsTrue, List, [], ◌∷◌, ◌++◌, None, Option, Some, cond, length, map, refl, sym, ap, ◌∙◌, subst, arith, slice_get, eq-eqb}
+use Rattle.std.proofs.Common.{◌≡◌, ⊎_elim, ℕ, ◌+◌, ◌<◌, ◌≤◌, ◌==◌, ◌&&◌, Bool, true, false, IsTrue, List, [], ◌∷◌, ◌++◌, None, Option, Some, cond, length, map, refl, sym, ap, ◌∙◌, subst, arith, slice_get, eq-eqb, ◌≢◌}
 use Rattle.nm_replay.specs.declared.block.Block.{Block}
 use Rattle.nm_replay.specs.Array.{Array}
 use Rattle.nm_fanout.specs.Records.{is_among}
 use Rattle.nm_leg.specs.Leg.{Leg, LegType}
 use Rattle.nm_leg.specs.LegCalls.{SyncsLegAt}
-use Rattle.nm_rules.specs.Array.{contents_of}
-use Rattle.nm_rules.specs.Flushed.{durable_of}
+use Rattle.nm_rules.specs.Array.{contents_at, contents_of}
+use Rattle.nm_replay.proofs.Arrays.{slice_get-set_other}
+use Rattle.std.proofs.lemmas.Bool.{both_ways}
+use Rattle.nm_rules.specs.Flushed.{durable_at, durable_of}
 use Rattle.nm_rules.specs.RunPush.{written_by}
 use Rattle.nm_rules.specs.Runs.{of_run}
 use Rattle.nm_rules.proofs.DurableLegLemmas.{calls-durable_after, calls-durable_before, calls-durable_other}
@@ -16,10 +18,10 @@ use Rattle.nm_rules.proofs.RecordLemmas.{one_or_two}
 use Rattle.nm_calls.specs.CallsOut.{Calling, CallsOut, SyncOut, is_read_on}
 use Rattle.nm_calls.specs.HasCalls.{ask_write, hand_out_write}
 use Rattle.nm_calls.specs.Syncing.{next_sync}
-use Rattle.nm_moves.specs.Calls.{HandsOut, IsMade, MakesCall, TakesAnswer, asked_write}
+use Rattle.nm_moves.specs.Calls.{LosesPowerAt, HandsOut, IsMade, MakesCall, TakesAnswer, asked_write}
 use Rattle.nm_moves.specs.Ends.{ComesLate, EndsRead, EndsSync, EndsWrite, Finds, FindsStopped, IsRefused, IsTakenOff, LosesLeg, ReachesLeg, ReadEnds, StopsStripe, SyncEnds, SyncIsGood, SyncIsRefused, SyncIsTakenOff, SyncTakesLegOut, TakesLegOut, WriteEnds}
 use Rattle.nm_moves.specs.Laws.{LeaveBlock, LeavesBlock, SyncsCover}
-use Rattle.nm_moves.specs.Moves.{AnswersRead, AnswersSync, AnswersWrite, AsksRead, AsksSync, AsksWrite, Attaches, Begins, Claims, Fails, Makes, Move, StepOf}
+use Rattle.nm_moves.specs.Moves.{LosesPower, AnswersRead, AnswersSync, AnswersWrite, AsksRead, AsksSync, AsksWrite, Attaches, Begins, Claims, Fails, Makes, Move, StepOf}
 use Rattle.nm_moves.specs.Runs.{MoveOf, MovesRun, unbelieved}
 use Rattle.nm_moves.specs.World.{Call, Came, Out, Reads, Syncs, World, Writes, made, unmade, writes_at}
 use Rattle.nm_moves.proofs.Kept.{InStep, IsKept, kept}
@@ -66,6 +68,7 @@ tickets-up (AnswersSync x came ends) c d step = let e = tickets-sync x.ticket ca
 tickets-up (Begins block ds ticket) c d step = let e : d.calls.tickets ≡ c.calls.tickets = ap (λ (n : CallsOut). n.tickets) step.1 in omega (arith, e)
 tickets-up (Claims ticket names) c d step = let e : d.calls.tickets ≡ c.calls.tickets = ap (λ (n : CallsOut). n.tickets) step.1 in omega (arith, e)
 tickets-up (Fails leg) c d step = let e : d.calls.tickets ≡ c.calls.tickets = ap (λ (n : CallsOut). n.tickets) step.1 in omega (arith, e)
+tickets-up (LosesPower leg) c d step = let e : d.calls.tickets ≡ c.calls.tickets = ap (λ (n : Calling Leg). n.calls.tickets) step.0 in omega (arith, e)
 tickets-up (Attaches leg) c d step = let e : d.calls.tickets ≡ c.calls.tickets = ap (λ (n : CallsOut). n.tickets) step.1.calls in omega (arith, e)
 
 module _ {L : Type 0} (type : LegType L) (is_honest : IsTrue type.honest) (s : SyncOut) (block : ℕ) where
@@ -180,6 +183,19 @@ module _ {L : Type 0} (type : LegType L) (is_honest : IsTrue type.honest) (s : S
           | false ↦ (tt, tt)
         ]
 
+    -- another leg loses power
+    power-lost : (leg : ℕ) → StepOf unbelieved (LosesPower leg) old.calling new.calling → LosesPowerAt leg old new → (leg == s.leg) ≡ false → Covers new
+    power-lost leg step p off =
+        let ne : leg ≢ s.leg = λ e. both_ways (leg == s.leg) off (eq-eqb leg s.leg e) in
+        let at_other : slice_get new.legs s.leg ≡ slice_get old.legs s.leg = ap (λ (ls : List L). slice_get ls s.leg) p.legs ∙ slice_get-set_other old.legs leg s.leg p.part ne in
+        let stays : IsDurable old.legs → IsDurable new.legs = λ was.
+        ap (λ (o : Option L). slice_get (durable_at type.model o) block) at_other ∙ was ∙ sym (ap (λ (o : Option L). slice_get (contents_at type.model o) block) at_other) in
+        record {
+          low = let up = tickets-up (LosesPower leg) old.calling new.calling step in let low_is = k.low in omega (arith, up, low_is);
+          each = subst (λ (os : List Out). Each (λ o. Fact new.legs o.call o.came) os) (sym p.out)
+              (each-then (λ o. Fact old.legs o.call o.came) (λ o. Fact new.legs o.call o.came) (λ o. fact-stays old.legs new.legs stays o.call o.came) old.out k.each);
+        }
+
     covers : (move : Move) → MoveOf type move old new → LeavesBlock s.leg block move → Covers new
     covers (AsksRead leg first count) m off = handed (AsksRead leg first count) _ m.step m.calls (tt, tt)
     covers (AsksWrite run leg first) m off = handed (AsksWrite run leg first) _ m.step m.calls (write-fresh run leg first)
@@ -193,7 +209,8 @@ module _ {L : Type 0} (type : LegType L) (is_honest : IsTrue type.honest) (s : S
     covers (Begins first ds ticket) m off = handed (Begins first ds ticket) [] m.step m.calls tt
     covers (Claims ticket names) m off = handed (Claims ticket names) [] m.step m.calls tt
     covers (Fails leg) m off = handed (Fails leg) [] m.step m.calls tt
-    covers (Attaches leg) m off = handed (Attaches leg) [] m.step m.calls tt
+    covers (Attaches leg) m off = handed (Attaches leg) [] m.step m.calls.0 tt
+    covers (LosesPower leg) m off = power-lost leg m.step m.calls off
 
   covers-all : (moves : List Move) (old new : World L) → Covers old → MovesRun type moves old new → LeaveBlock s.leg block moves → Covers new
   covers-all [] old new k runs leaves = subst (λ (w : World L). Covers w) (sym runs) k
@@ -223,6 +240,6 @@ syncs-cover {L} type is_honest moves start old new leg block begins runs over =
     let last = covers-all type is_honest s block over.moves over.first over.last first over.runs over.leaves in
     let a = over.answers.calls in
     let fact = each-of (λ o. Fact type is_honest s block over.last.legs o.call o.came) a.front (made (Syncs s) over.came) a.back
-        (subst (λ (os : List Out). Each (λ o. Fact type is_honest s block over.last.legs o.call o.came) os) a.was last.each) in
+    (subst (λ (os : List Out). Each (λ o. Fact type is_honest s block over.last.legs o.call o.came) os) a.was last.each) in
     let there : IsDurable type is_honest s block over.last.legs = (fact refl).1 over.answers.step.2 in
     subst (λ (ls : List L). IsDurable type is_honest s block ls) (sym a.legs) there

@@ -67,8 +67,8 @@ module _ {L : Type 0} (type : LegType L) (old new : World L) (s : InStep type ol
       ∙ ap (λ (l : LegRegions). not (is_behind (k / c.stripe.place.region) l) || has_copied to (k / c.stripe.place.region) (place_of k (table c.stripe)) c.stripe.copy)
       (set-other c.stripe.flags leg to (attached (leg_at leg (table c.stripe))) no_leg ne)
 
-  writes : CarriesWrites Other c d
-  writes = record {
+  pub joined-writes : CarriesWrites Other c d
+  joined-writes = record {
     writes = λ run to block blocks ne w.
         inl (record {
           out = ap (λ (n : CallsOut). list_any (is_of run to) n.writes) a.calls ∙ w.out;
@@ -83,7 +83,7 @@ module _ {L : Type 0} (type : LegType L) (old new : World L) (s : InStep type ol
   pub joined-each : Each (IsKept type new.legs d) new.out
   joined-each =
       subst (λ (ls : List L). Each (IsKept type ls d) new.out) (sym h.legs)
-      (subst (λ (os : List Out). Each (IsKept type old.legs d) os) (sym h.out) (still type old.legs Other c d reads writes old.out others s.each))
+      (subst (λ (os : List Out). Each (IsKept type old.legs d) os) (sym h.out) (still type old.legs Other c d reads joined-writes old.out others s.each))
 
   -- the leg itself is out no more
   joined-is : IsGone leg d → ⊥

@@ -14,7 +14,7 @@ use Rattle.nm_calls.specs.CallsOut.{Calling, LegCalls, count_out}
 use Rattle.nm_calls.specs.HasCalls.{IsStanding}
 use Rattle.nm_calls.proofs.WriteOutLemmas.{never}
 use Rattle.nm_moves.specs.Laws.{HoldTheArray}
-use Rattle.nm_moves.specs.World.{AreAsAnswered, Call, Came, Out, Reads, Syncs, World, Writes, is_made_on, made, unmade, writes_at}
+use Rattle.nm_moves.specs.World.{AreAsAnswered, Call, Came, Out, Reads, Syncs, World, Writes, is_lost, is_made_on, made, unmade, writes_at}
 use Rattle.nm_moves.proofs.FoundReads.{CarriesReads, ReadKept, SyncKept, read-kept, sync-kept}
 use Rattle.nm_moves.proofs.InTimes.{CarriesWrites, InTime, IsGone, WriteKept, attached, busy-with, one-run, unread, write-kept}
 use Rattle.nm_moves.proofs.Outs.{Each, each-of, each-other, each-with}
@@ -58,6 +58,11 @@ pub record InStep {L : Type 0} (type : LegType L) (w : World L) : Type 0 where
   pub each : Each (IsKept type w.legs w.calling) w.out
   pub apart : AreApart w.out
   pub counted : CountsLate w.calling w.out
+  pub dark : (leg : ℕ) → is_lost leg w.lost ≡ true → IsGone leg w.calling
+
+-- a leg that is attached has not lost power
+pub is-lit : {L : Type 0} (type : LegType L) (w : World L) → InStep type w → (leg : ℕ) → (IsGone leg w.calling → ⊥) → is_lost leg w.lost ≡ false
+is-lit type w s leg attached_is = never (is_lost leg w.lost) (λ is_dark. attached_is (s.dark leg is_dark))
 
 differ-back : (a b : Call) → Differ a b → Differ b a
 differ-back (Writes run leg block blocks) (Writes other to first more) d = λ e f. d (sym e) (sym f)
@@ -216,5 +221,5 @@ module _ {L : Type 0} (type : LegType L) (w : World L) (s : InStep type w) where
 
   pub hold-the-array : stripe.stopped ≡ false → HoldTheArray type w
   hold-the-array runs leg block inside below current free =
-      s.same leg block (none-by leg block w.out (all-idle leg block current free w.out s.each))
+      s.same leg block (is-lit type w s leg (both_ways (is_out (leg_state leg stripe)) (current-attached answered stripe leg block s.keeps.stripe.legs s.keeps.stripe.chunk current))) (none-by leg block w.out (all-idle leg block current free w.out s.each))
       ∙ (keeps-sound answered stripe s.keeps.stripe).current refl runs leg block inside below current free

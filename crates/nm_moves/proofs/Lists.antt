@@ -1,12 +1,13 @@
 -- Moves one after the other: what holds while calls are out holds still after each.
-use Rattle.std.proofs.Common.{◌≡◌, ℕ, Bool, false, IsTrue, List, [], ◌∷◌, Some, cond, refl, sym, ap, ◌∙◌, subst, arith, eq-eqb}
+use Rattle.std.proofs.Common.{◌≡◌, ℕ, Bool, false, IsTrue, List, [], ◌∷◌, Some, cond, refl, sym, ap, ◌∙◌, subst, arith, eq-eqb, ◌≢◌, ⊎_elim, ◌||◌, ne_eqb, ◌+◌, true}
 use Rattle.std.proofs.lemmas.Bool.{both_ways}
 use Rattle.nm_replay.specs.declared.block.Block.{Block}
 use Rattle.nm_leg.specs.Leg.{Leg, LegType}
 use Rattle.nm_rules.specs.declared.refusal.Refusal.TheVariants.{AlreadyOut}
 use Rattle.nm_rules.specs.Attach.{after_attach}
-use Rattle.nm_moves.proofs.SyncAnswers.{believed-ends_sync, sync-counts, sync-each}
-use Rattle.nm_moves.proofs.Joined.{joined-counts, joined-each}
+use Rattle.nm_rules.proofs.RecordLemmas.{one_or_two}
+use Rattle.nm_moves.proofs.SyncAnswers.{believed-ends_sync, sync-counts, sync-each, sync-writes}
+use Rattle.nm_moves.proofs.Joined.{joined-counts, joined-each, joined-writes}
 use Rattle.nm_rules.specs.Failing.{GoesOut, fail_rows}
 use Rattle.nm_rules.specs.Invariant.{is_clear}
 use Rattle.nm_rules.specs.Lost.{lost}
@@ -18,23 +19,23 @@ use Rattle.nm_calls.specs.CallsOut.{Calling, CallsOut}
 use Rattle.nm_moves.specs.Laws.{ActOnOneArray, CallsAreMadeAtTheirAnswers, Hold, MovesAct, NoneStops, Starts, concat}
 use Rattle.nm_moves.specs.Calls.{CallsOf, TakesAnswer}
 use Rattle.nm_moves.specs.Ends.{ComesLate, FindsStopped, EndsWrite, ReachesLeg, StopsStripe, TakesLegOut, WriteEnds}
-use Rattle.nm_moves.specs.Moves.{AnswersRead, AnswersSync, AnswersWrite, AsksRead, AsksSync, AsksWrite, Attaches, Begins, Claims, Fails, Makes, Move, StepOf}
+use Rattle.nm_moves.specs.Moves.{AnswersRead, AnswersSync, AnswersWrite, AsksRead, AsksSync, AsksWrite, Attaches, Begins, Claims, Fails, Makes, Move, StepOf, LosesPower}
 use Rattle.nm_moves.specs.Runs.{MoveOf, MovesRun, StepsRun, unbelieved}
-use Rattle.nm_moves.specs.World.{AreAsAnswered, Came, Out, Reads, Syncs, World, Writes, made}
+use Rattle.nm_moves.specs.World.{AreAsAnswered, Came, Out, Reads, Syncs, World, Writes, made, is_lost}
 use Rattle.nm_moves.proofs.Carried.{syncs-same, begins-faces, claims-faces, reads-carry, were-lost, were-same, writes-lost, writes-same}
 use Rattle.nm_moves.proofs.FoundReads.{held, known-block}
-use Rattle.nm_moves.proofs.InTimes.{IsGone}
+use Rattle.nm_moves.proofs.InTimes.{IsGone, CarriesWrites, lost-still}
 use Rattle.nm_moves.proofs.Kept.{Any, AreApart, CountsLate, InStep, IsKept, apart-made, hold-the-array, one_on, writes_on}
 use Rattle.nm_moves.proofs.LateCounts.{counts-same, on-made, on-split}
 use Rattle.nm_moves.proofs.LateLegs.{clear-begun}
-use Rattle.nm_moves.proofs.MadeCalls.{each-made}
+use Rattle.nm_moves.proofs.MadeCalls.{each-made, each-lost}
 use Rattle.nm_moves.proofs.Outs.{Each}
 use Rattle.nm_moves.proofs.ReadAnswers.{believed-ends_read, kept-read}
-use Rattle.nm_moves.proofs.Same.{answers-same, hands-same, makes-same}
+use Rattle.nm_moves.proofs.Same.{answers-same, hands-same, makes-same, loses-same}
 use Rattle.nm_moves.proofs.Steps.{IsKnown, Leaves, step-leaves}
 use Rattle.nm_moves.proofs.WriteAnswers.{believed-ends_write, is-late}
-use Rattle.nm_moves.proofs.Answered.{answer-apart, answer-counts, answer-each, failed-counts, read-counts, read-each}
-use Rattle.nm_moves.proofs.Asked.{asked_sync-apart, asked_sync-counts, asked_sync-each, asked_sync-stays, asked-apart, asked-counts, asked-each, asked-stays, lost-legs, none-apart, none-counts, none-each, stays-by, write-apart, write-counts, write-each, write-stripe}
+use Rattle.nm_moves.proofs.Answered.{answer-apart, answer-counts, answer-each, failed-counts, read-counts, read-each, read-writes, answer-writes}
+use Rattle.nm_moves.proofs.Asked.{asked_sync-apart, asked_sync-counts, asked_sync-each, asked_sync-stays, asked-apart, asked-counts, asked-each, asked-stays, lost-legs, none-apart, none-counts, none-each, stays-by, write-apart, write-counts, write-each, write-stripe, asked-writes, write-writes, asked_sync-writes}
 
 module _ {L : Type 0} (type : LegType L) (is_honest : IsTrue type.honest) (old new : World L) (s : InStep type old) where
   abbrev c : Calling Leg
@@ -56,6 +57,7 @@ module _ {L : Type 0} (type : LegType L) (is_honest : IsTrue type.honest) (old n
   believed (Claims ticket names) step calls = step
   believed (Fails leg) step calls = step
   believed (Attaches leg) step calls = step
+  believed (LosesPower leg) step calls = step
 
   known-write : (run leg block : ℕ) (blocks : List Block) (came : Came) (ends : WriteEnds) → EndsWrite unbelieved run leg block blocks came ends c d → TakesAnswer type (Writes run leg block blocks) came (AnswersWrite run leg block blocks came ends) old new → IsKnown (AnswersWrite run leg block blocks came ends) c
   known-write run leg block blocks came ReachesLeg step a = tt
@@ -87,6 +89,7 @@ module _ {L : Type 0} (type : LegType L) (is_honest : IsTrue type.honest) (old n
   known (Claims ticket names) step calls = tt
   known (Fails leg) step calls = tt
   known (Attaches leg) step calls = tt
+  known (LosesPower leg) step calls = tt
 
   step-of : (move : Move) → MoveOf type move old new → Leaves answered move c d
   step-of move m = step-leaves answered refl c d s.keeps move (known move m.step m.calls) (believed move m.step m.calls)
@@ -98,7 +101,7 @@ module _ {L : Type 0} (type : LegType L) (is_honest : IsTrue type.honest) (old n
       when_off (is_out (leg_state leg c.stripe)) AlreadyOut rows.1.0
 
   goes : (move : Move) → MoveOf type move old new → InStep type new
-  goes move m = record { keeps = (step-of move m).keeps; same = by-same move m.step m.calls; each = by-each move m.step m.calls; apart = by-apart move m.step m.calls; counted = by-counts move m.step m.calls }
+  goes move m = record { keeps = (step-of move m).keeps; same = by-same move m.step m.calls; each = by-each move m.step m.calls; apart = by-apart move m.step m.calls; counted = by-counts move m.step m.calls; dark = by-dark move m.step m.calls }
     where
       by-same : (move : Move) → StepOf unbelieved move c d → CallsOf type move old new → AreAsAnswered type new
       by-same (AsksRead leg block count) step calls = hands-same type is_honest _ old new calls (asked-stays type is_honest old new s leg block count step.1 calls) s.same
@@ -111,7 +114,8 @@ module _ {L : Type 0} (type : LegType L) (is_honest : IsTrue type.honest) (old n
       by-same (Begins block ds ticket) step calls = hands-same type is_honest [] old new calls (stays-by type is_honest old new s _ step.0.after refl) s.same
       by-same (Claims ticket names) step calls = hands-same type is_honest [] old new calls (stays-by type is_honest old new s _ step.0.after refl) s.same
       by-same (Fails leg) step calls = hands-same type is_honest [] old new calls (stays-by type is_honest old new s (lost leg c.stripe) step.0.after (lost-legs leg c.stripe)) s.same
-      by-same (Attaches leg) step calls = hands-same type is_honest [] old new calls (stays-by type is_honest old new s (after_attach c.stripe leg) step.1.stripe.after refl) s.same
+      by-same (Attaches leg) step calls = hands-same type is_honest [] old new calls.0 (stays-by type is_honest old new s (after_attach c.stripe leg) step.1.stripe.after refl) s.same
+      by-same (LosesPower leg) step calls = loses-same type is_honest leg old new calls step.0 s.same
 
       by-each : (move : Move) → StepOf unbelieved move c d → CallsOf type move old new → Each (IsKept type new.legs d) new.out
       by-each (AsksRead leg block count) step calls = asked-each type is_honest old new s leg block count step.1 calls
@@ -135,7 +139,10 @@ module _ {L : Type 0} (type : LegType L) (is_honest : IsTrue type.honest) (old n
           none-each type is_honest old new s calls
           (reads-carry c d (ap (λ (n : CallsOut). n.tickets) step.1) (were-lost c.calls.reads d.calls.reads leg c.stripe.master (ap (λ (n : CallsOut). n.reads) step.1)) (syncs-same c.calls.syncs d.calls.syncs (ap (λ (n : CallsOut). n.syncs) step.1)) (stays-by type is_honest old new s (lost leg c.stripe) step.0.after (lost-legs leg c.stripe)))
           (writes-lost c d s.keeps leg c.stripe.legs (fails-attached leg step.0) step.0.after c.calls.writes Any (ap (λ (n : CallsOut). n.writes) step.1) (λ run to other out. out))
-      by-each (Attaches leg) step calls = joined-each type old new s leg step.0 step.1 calls
+      by-each (Attaches leg) step calls = joined-each type old new s leg step.0 step.1 calls.0
+      by-each (LosesPower leg) step calls =
+          subst (λ (n : Calling Leg). Each (IsKept type new.legs n) new.out) (sym step.0)
+          (subst (λ (os : List Out). Each (IsKept type new.legs c) os) (sym calls.out) (each-lost type is_honest old new s leg calls step.1 old.out s.each))
 
       by-apart : (move : Move) → StepOf unbelieved move c d → CallsOf type move old new → AreApart new.out
       by-apart (AsksRead leg block count) step calls = asked-apart type is_honest old new s leg block count step.1 calls
@@ -149,7 +156,8 @@ module _ {L : Type 0} (type : LegType L) (is_honest : IsTrue type.honest) (old n
       by-apart (Begins block ds ticket) step calls = none-apart type is_honest old new s calls
       by-apart (Claims ticket names) step calls = none-apart type is_honest old new s calls
       by-apart (Fails leg) step calls = none-apart type is_honest old new s calls
-      by-apart (Attaches leg) step calls = none-apart type is_honest old new s calls
+      by-apart (Attaches leg) step calls = none-apart type is_honest old new s calls.0
+      by-apart (LosesPower leg) step calls = subst (λ (os : List Out). AreApart os) (sym calls.out) s.apart
 
       by-counts : (move : Move) → StepOf unbelieved move c d → CallsOf type move old new → CountsLate d new.out
       by-counts (AsksRead leg block count) step calls = asked-counts type is_honest old new s leg block count step.1 calls
@@ -166,7 +174,42 @@ module _ {L : Type 0} (type : LegType L) (is_honest : IsTrue type.honest) (old n
       by-counts (Fails leg) step calls =
           subst (λ (os : List Out). CountsLate d os) (sym calls.out)
           (failed-counts type is_honest old new s leg c.stripe.legs step.0.after step.1 (both_ways (is_out (leg_state leg c.stripe)) (fails-attached leg step.0)))
-      by-counts (Attaches leg) step calls = joined-counts type old new s leg step.0 step.1 calls
+      by-counts (Attaches leg) step calls = joined-counts type old new s leg step.0 step.1 calls.0
+      by-counts (LosesPower leg) step calls =
+          counts-same c d old.out new.out (ap (λ (n : Calling Leg). n.calls) step.0) (λ i gone. subst (λ (n : Calling Leg). IsGone i n) step.0 gone) (λ i. ap (λ (os : List Out). writes_on i os) calls.out) s.counted
+
+      -- a leg that is out is so still
+      still-gone : (Other : ℕ → ℕ → Type 0) (run i : ℕ) → CarriesWrites Other c d → Other run i → new.lost ≡ old.lost → is_lost i new.lost ≡ true → IsGone i d
+      still-gone Other run i q other same_lost is_dark =
+          let was : IsGone i c = s.dark i (ap (λ (ls : List ℕ). is_lost i ls) (sym same_lost) ∙ is_dark) in
+          (q.late run i 0 0 other (record { gone = was; behind = λ k low high. absurd (let e : ⊥ = omega (arith, low, high) in e) })).gone
+
+      by-dark : (move : Move) → StepOf unbelieved move c d → CallsOf type move old new → (i : ℕ) → is_lost i new.lost ≡ true → IsGone i d
+      by-dark (AsksRead leg block count) step calls i is_dark = still-gone Any 0 i (asked-writes type is_honest old new s leg block count step.1 calls) tt calls.lost is_dark
+      by-dark (AsksWrite run leg block) step calls i is_dark = still-gone Any 0 i (write-writes type is_honest old new s run leg block step.0 step.1) tt calls.lost is_dark
+      by-dark (AsksSync leg asked_for counts) step calls i is_dark = still-gone Any 0 i (asked_sync-writes type is_honest old new s leg asked_for counts step.0 step.1 calls) tt calls.lost is_dark
+      by-dark (Makes call came) step calls i is_dark =
+          subst (λ (n : Calling Leg). IsGone i n) (sym step) (s.dark i (ap (λ (ls : List ℕ). is_lost i ls) (sym calls.lost) ∙ is_dark))
+      by-dark (AnswersRead x came ends) step calls i is_dark = still-gone Any 0 i (read-writes type is_honest old new s x came ends step calls) tt calls.lost is_dark
+      by-dark (AnswersWrite run leg block blocks came ends) step calls i is_dark =
+          still-gone (λ r l. run ≡ r → leg ≡ l → ⊥) (run + 1) i (answer-writes type is_honest old new s run leg block blocks came ends step calls) (λ e f. let b : ⊥ = omega (arith, e) in b) calls.lost is_dark
+      by-dark (AnswersSync x came ends) step calls i is_dark = still-gone Any 0 i (sync-writes type is_honest old new s x came ends calls step) tt calls.lost is_dark
+      by-dark (Begins block ds ticket) step calls i is_dark =
+          ap (λ (n : StripeState Leg). is_out (leg_state i n)) step.0.after ∙ s.dark i (ap (λ (ls : List ℕ). is_lost i ls) (sym calls.lost) ∙ is_dark)
+      by-dark (Claims ticket names) step calls i is_dark =
+          ap (λ (n : StripeState Leg). is_out (leg_state i n)) step.0.after ∙ s.dark i (ap (λ (ls : List ℕ). is_lost i ls) (sym calls.lost) ∙ is_dark)
+      by-dark (Fails leg) step calls i is_dark =
+          ap (λ (n : StripeState Leg). is_out (leg_state i n)) step.0.after ∙ lost-still leg c.stripe i (s.dark i (ap (λ (ls : List ℕ). is_lost i ls) (sym calls.lost) ∙ is_dark))
+      by-dark (Attaches leg) step calls i is_dark =
+          still-gone (λ r l. l ≢ leg) 0 i (joined-writes type old new s leg step.0 step.1 calls.0)
+          (λ e. both_ways (is_lost leg old.lost) calls.1 (subst (λ (n : ℕ). is_lost n old.lost ≡ true) e (ap (λ (ls : List ℕ). is_lost i ls) (sym calls.0.lost) ∙ is_dark)))
+          calls.0.lost is_dark
+      by-dark (LosesPower leg) step calls i is_dark =
+          subst (λ (n : Calling Leg). IsGone i n) (sym step.0)
+          (⊎_elim
+          (λ own. subst (λ (n : ℕ). IsGone n c) (sym own) step.1)
+          (λ ne. s.dark i (ap (λ (b : Bool). b || is_lost i old.lost) (sym (ne_eqb leg i (λ e. ne (sym e)))) ∙ ap (λ (ls : List ℕ). is_lost i ls) (sym calls.lost) ∙ is_dark))
+          (one_or_two i leg))
 
 -- none stops the stripe: not the first, and none of the others
 none-first : (move : Move) (moves : List Move) → NoneStops (move ∷ moves) → NoneStops (move ∷ []) × NoneStops moves
@@ -185,6 +228,7 @@ none-first (Begins block ds ticket) moves none = (tt, none)
 none-first (Claims ticket names) moves none = (tt, none)
 none-first (Fails leg) moves none = (tt, none)
 none-first (Attaches leg) moves none = (tt, none)
+none-first (LosesPower leg) moves none = (tt, none)
 
 module _ {L : Type 0} (type : LegType L) (is_honest : IsTrue type.honest) where
   pub starts : (w : World L) → Starts type w → InStep type w
@@ -194,6 +238,7 @@ module _ {L : Type 0} (type : LegType L) (is_honest : IsTrue type.honest) where
     each = subst (λ (os : List Out). Each (IsKept type w.legs w.calling) os) (sym s.none_out) tt;
     apart = subst (λ (os : List Out). AreApart os) (sym s.none_out) tt;
     counted = λ i l at gone. let n = s.keeps.calls.counted i l at in let none : writes_on i w.out ≡ 0 = ap (λ (os : List Out). writes_on i os) s.none_out in omega (arith, n, none);
+    dark = λ leg is_dark. absurd (let none : is_lost leg w.lost ≡ false = ap (λ (ls : List ℕ). is_lost leg ls) s.none_lost in both_ways (is_lost leg w.lost) none is_dark);
   }
 
   -- over all of the moves

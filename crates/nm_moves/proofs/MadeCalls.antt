@@ -1,23 +1,29 @@
 -- A call is made: what a read found is what its leg has as it was answered, a write that went well
 -- left its blocks, and no other write's blocks change.
-use Rattle.std.proofs.Common.{◌≡◌, ⊎_elim, ℕ, zero, suc, ◌+◌, ◌-◌, ◌<◌, ◌≤◌, ◌==◌, ◌&&◌, Bool, true, false, IsTrue, List, [], ◌∷◌, ◌++◌, Option, None, Some, length, refl, sym, ap, ◌∙◌, subst, arith, slice_get, inl, inr}
+use Rattle.std.proofs.Common.{◌≡◌, ⊎_elim, ℕ, zero, suc, ◌+◌, ◌-◌, ◌<◌, ◌≤◌, ◌==◌, ◌&&◌, Bool, true, false, IsTrue, List, [], ◌∷◌, ◌++◌, Option, None, Some, length, refl, sym, ap, ◌∙◌, subst, arith, slice_get, inl, inr, ◌≢◌}
 use Rattle.nm_replay.specs.declared.block.Block.{Block}
 use Rattle.nm_replay.specs.Array.{Array}
 use Rattle.nm_fanout.specs.Records.{is_among}
 use Rattle.nm_leg.specs.Leg.{HoldsRun, LegType, set_run}
 use Rattle.nm_leg.proofs.RunLemmas.{set_run-inside}
-use Rattle.nm_rules.specs.Array.{contents_of}
+use Rattle.nm_rules.specs.Array.{contents_at, contents_of}
+use Rattle.nm_replay.proofs.Arrays.{slice_get-set_other}
 use Rattle.nm_rules.specs.RunCalls.{WritesRunAt}
 use Rattle.nm_rules.specs.State.{is_out, leg_state}
 use Rattle.nm_rules.proofs.LegLemmas.{calls-after, calls-before}
 use Rattle.nm_rules.proofs.StateLemmas.{attached_inside}
 use Rattle.nm_calls.proofs.ReadEndLemmas.{among}
 use Rattle.nm_calls.proofs.WriteOutLemmas.{never}
-use Rattle.nm_moves.specs.Calls.{MakesCall}
-use Rattle.nm_moves.specs.World.{Call, Came, Out, Reads, Syncs, World, Writes, is_made_on, made, unmade, writes_at}
+use Rattle.std.proofs.lemmas.Bool.{both_ways}
+use Rattle.nm_rules.proofs.RelabelLemmas.{current-attached}
+use Rattle.nm_calls.specs.AsAnswered.{answered}
+use Rattle.nm_calls.specs.declared.read_out.ReadOut.{ReadOut}
+use Rattle.nm_calls.specs.HasCalls.{IsStanding}
+use Rattle.nm_moves.specs.Calls.{LosesPowerAt, MakesCall}
+use Rattle.nm_moves.specs.World.{Call, Came, Out, Reads, Syncs, World, Writes, is_made_on, made, unmade, writes_at, is_lost}
 use Rattle.nm_moves.proofs.FoundReads.{held, stands-too}
 use Rattle.nm_moves.proofs.InTimes.{InTime, IsGone, attached, inside, one-run}
-use Rattle.nm_moves.proofs.Kept.{AreApart, Differ, InStep, IsKept, apart-of, free-read, free-write, kept, there}
+use Rattle.nm_moves.proofs.Kept.{AreApart, Differ, InStep, IsKept, apart-of, free-read, free-write, is-lit, kept, there}
 use Rattle.nm_moves.proofs.Outs.{Each, any-without, each-of, each-other, each-with}
 use Rattle.nm_moves.proofs.Same.{made-other}
 
@@ -80,7 +86,7 @@ module _ {L : Type 0} (type : LegType L) (is_honest : IsTrue type.honest) (old n
       let high : last < block + length blocks = omega (arith, some) in
       let k = s.keeps in
       let free = free-write type old.legs old.calling k run leg block blocks w last low high (m.front ++ m.back) (others-differ type is_honest old new s this came m) (others-kept type is_honest old new s this came m) in
-      let same = s.same leg last (none-but type is_honest old new s this came m leg last free) in
+      let same = s.same leg last (is-lit type old s leg (attached old.calling k run leg block blocks w last low high)) (none-but type is_honest old new s this came m leg last free) in
       let there_is : leg < length old.calling.stripe.legs =
       attached_inside (λ l. l) old.calling.stripe k.stripe.legs leg (never (is_out (leg_state leg old.calling.stripe)) (attached old.calling k run leg block blocks w last low high)) in
       let all = k.stripe.legs.lengths leg there_is in
@@ -135,6 +141,12 @@ module _ {L : Type 0} (type : LegType L) (is_honest : IsTrue type.honest) (old n
   all-stay call came m k [] ds all = tt
   all-stay call came m k (o ∷ os) ds all = (one-stays call came m k o.call o.came ds.0 all.0, all-stay call came m k os ds.1 all.1)
 
+  -- the leg of a read that counts has not lost power
+  read-lit : (x : ReadOut) (b : ℕ) → IsStanding x.ticket x b old.calling.calls → is_lost x.leg old.lost ≡ false
+  read-lit x b stands =
+      is-lit type old s x.leg (both_ways (is_out (leg_state x.leg old.calling.stripe))
+      (current-attached answered old.calling.stripe x.leg b s.keeps.stripe.legs s.keeps.stripe.chunk (s.keeps.calls.current x.ticket b x stands)))
+
   -- what holds of the call that is made
   pub made-kept : (call : Call) (came : Came) → MakesCall type call came old new → kept type old.legs old.calling call None → kept type new.legs old.calling call (Some came)
   made-kept (Reads x) came m k = record {
@@ -147,7 +159,7 @@ module _ {L : Type 0} (type : LegType L) (is_honest : IsTrue type.honest) (old n
           let r = m.call_made.1 in
           stands-too x.block came.found (contents_of type.model old.legs x.leg) (held old.calling.stripe.legs x.leg)
           (λ b above below.
-          s.same x.leg b (free-read type old.legs old.calling s.keeps x b
+          s.same x.leg b (read-lit x b (record { out = out; counts = k.counts; inside = among x b above (omega (arith, below, m.call_made.0)) })) (free-read type old.legs old.calling s.keeps x b
           (record { out = out; counts = k.counts; inside = among x b above (omega (arith, below, m.call_made.0)) }) old.out s.each))
           (subst (λ (xs : List Block). HoldsRun x.block came.found xs) (sym (calls-before type.model old.legs new.legs x.leg r.before r.after r.change)) (r.reads.found is_honest (subst (λ (b : Bool). IsTrue b) (sym done) refl)));
     };
@@ -165,3 +177,27 @@ module _ {L : Type 0} (type : LegType L) (is_honest : IsTrue type.honest) (old n
       let k = mine type is_honest old new s call came m in
       each-with (IsKept type new.legs old.calling) m.front (made call came) m.back (made-kept call came m k)
       (all-stay call came m k (m.front ++ m.back) (others-differ type is_honest old new s call came m) (others-kept type is_honest old new s call came m))
+
+  -- a leg that is out loses power: the writes that are in time are of others
+  lost-stays : (other : ℕ) (p : LosesPowerAt other old new) → IsGone other old.calling → (call : Call) (oc : Option Came) → kept type old.legs old.calling call oc → kept type new.legs old.calling call oc
+  lost-stays other p gone (Reads x) oc h = h
+  lost-stays other p gone (Syncs y) oc h = h
+  lost-stays other p gone (Writes run to first more) None h = h
+  lost-stays other p gone (Writes run to first more) (Some c) h =
+      ⊎_elim
+      (λ v.
+      inl (
+        v.0,
+        λ done.
+            stands-too first more (contents_of type.model old.legs to) (contents_of type.model new.legs to)
+            (λ i low high.
+            let ne : to ≢ other = λ e. attached old.calling s.keeps run to first more v.0 i low high (subst (λ (n : ℕ). IsGone n old.calling) (sym e) gone) in
+            sym (ap (λ (ls : List L). slice_get (contents_of type.model ls to) i) p.legs ∙ ap (λ (o : Option L). slice_get (contents_at type.model o) i) (slice_get-set_other old.legs other to p.part (λ e. ne (sym e)))))
+            (v.1 done),
+      ))
+      (λ late. inr late)
+      h
+
+  pub each-lost : (other : ℕ) (p : LosesPowerAt other old new) → IsGone other old.calling → (os : List Out) → Each (IsKept type old.legs old.calling) os → Each (IsKept type new.legs old.calling) os
+  each-lost other p gone [] all = tt
+  each-lost other p gone (o ∷ os) all = (lost-stays other p gone o.call o.came all.0, each-lost other p gone os all.1)

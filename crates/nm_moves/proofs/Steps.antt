@@ -42,7 +42,7 @@ use Rattle.nm_calls.proofs.StepsOverLemmas.{begins_out-has, claims_out-has, goes
 use Rattle.nm_calls.proofs.VoidLemmas.{fails_out-explained, fails_out-has, fails_out-keeps, taken-has}
 use Rattle.nm_moves.specs.Laws.{NoneStops, marks}
 use Rattle.nm_moves.specs.Ends.{EndsSync, SyncEnds, SyncIsGood, SyncIsRefused, SyncIsTakenOff, SyncTakesLegOut, ComesLate, EndsRead, EndsWrite, Finds, FindsStopped, StoppedWriteOut, IsRefused, IsTakenOff, LateWriteOut, LosesLeg, ReachesLeg, ReadEnds, StopsStripe, TakesLegOut, WriteEnds}
-use Rattle.nm_moves.specs.Moves.{AnswersRead, AnswersSync, AnswersWrite, AsksRead, AsksSync, AsksWrite, Attaches, Begins, Claims, Fails, Makes, Move, StepOf}
+use Rattle.nm_moves.specs.Moves.{LosesPower, AnswersRead, AnswersSync, AnswersWrite, AsksRead, AsksSync, AsksWrite, Attaches, Begins, Claims, Fails, Makes, Move, StepOf}
 use Rattle.nm_moves.specs.World.{Came}
 
 -- a read is found under its own ticket
@@ -328,3 +328,6 @@ module _ {L : Type 0} (type : LegType L) (is_honest : IsTrue type.honest) (old n
             subst (λ (n : StripeState L). IsExplainedStep type.model [] old.stripe n) (sym a.stripe.after)
             (record { events = []; marked = refl; acts = attach-acts type old.stripe leg step.0 k.stripe out });
       }
+  step-leaves (LosesPower leg) known step =
+      let stripe : new.stripe ≡ old.stripe = ap (λ (c : Calling L). c.stripe) step.0 in
+      record { keeps = subst (λ (c : Calling L). KeepsCalls type c) (sym step.0) k; explained = λ honest_is goes. with-stripe [] refl stripe }

@@ -345,7 +345,7 @@ module _ {L : Type 0} (type : LegType L) (is_honest : IsTrue type.honest) (old n
         by SyncIsRefused t stay = reads-carry c d (ap (λ (n : CallsOut). n.tickets) t.3.calls) (were-same c.calls.reads d.calls.reads (ap (λ (n : CallsOut). n.reads) t.3.calls)) (synced t.0.ticket (ap (λ (n : CallsOut). n.syncs) t.3.calls)) stay
         by SyncIsTakenOff t stay = reads-carry c d (ap (λ (n : CallsOut). n.tickets) t.2.calls) (were-same c.calls.reads d.calls.reads (ap (λ (n : CallsOut). n.reads) t.2.calls)) (synced t.0.ticket (ap (λ (n : CallsOut). n.syncs) t.2.calls)) stay
 
-    sync-writes : CarriesWrites Any c d
+    pub sync-writes : CarriesWrites Any c d
     sync-writes = by ends step
       where
         by : (e : SyncEnds) → EndsSync unbelieved x.ticket came e c d → CarriesWrites Any c d

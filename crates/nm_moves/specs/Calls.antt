@@ -1,6 +1,6 @@
 -- What moves do to the legs as they are, and to what is out.
 use Rattle.std.specs.Prelude.{◌≡◌, ℕ, ◌==◌, Bool, true, false, List, [], ◌∷◌, ◌++◌, length, map}
-use Rattle.std.specs.Prelude.{if◌then◌else◌}
+use Rattle.std.specs.Prelude.{slice_set, if◌then◌else◌}
 use Rattle.nm_leg.specs.Leg.{LegType}
 use Rattle.nm_leg.specs.LegCalls.{SyncsLegAt}
 use Rattle.nm_rules.specs.Array.{contents_of}
@@ -12,10 +12,11 @@ use Rattle.nm_calls.specs.Asking.{next_read}
 use Rattle.nm_calls.specs.CallsOut.{Calling, is_read_on}
 use Rattle.nm_calls.specs.Syncing.{next_sync}
 use Rattle.nm_moves.specs.World.{Call, Came, Out, Reads, Syncs, World, Writes, as_answered}
-use Rattle.nm_moves.specs.World.{as_it_is, made, unmade, writes_at}
+use Rattle.nm_moves.specs.World.{as_it_is, is_lost, made, unmade, writes_at}
 use Rattle.nm_moves.specs.Ends.{SyncIsGood}
 use Rattle.nm_moves.specs.Moves.{AnswersRead, AnswersSync, AnswersWrite, AsksRead, AsksSync}
-use Rattle.nm_moves.specs.Moves.{AsksWrite, Attaches, Begins, Claims, Fails, Makes, Move}
+use Rattle.nm_moves.specs.Moves.{AsksWrite, Attaches, Begins, Claims, Fails, LosesPower}
+use Rattle.nm_moves.specs.Moves.{Makes, Move}
 
 -- the call is made at its leg
 abbrev pub IsMade : {L : Type 0} → LegType L → Call → Came → (old new : List L) → Type 0
@@ -34,6 +35,7 @@ pub record MakesCall {L : Type 0} (type : LegType L) (call : Call) (came : Came)
   pub was : old.out ≡ front ++ unmade call ∷ back
   pub is : new.out ≡ front ++ made call came ∷ back
   pub call_made : IsMade type call came old.legs new.legs
+  pub lost : new.lost ≡ old.lost
 
 -- whether the answer is a sync's of this leg, and the sync was good
 abbrev pub is_synced : (leg : ℕ) → Move → Bool
@@ -49,6 +51,7 @@ pub record TakesAnswer {L : Type 0} (type : LegType L) (call : Call) (came : Cam
   pub was : old.out ≡ front ++ made call came ∷ back
   pub is : new.out ≡ front ++ back
   pub legs : new.legs ≡ old.legs
+  pub lost : new.lost ≡ old.lost
   pub written : (leg block : ℕ) → writes_at leg block call ≡ true
       → as_answered new leg block ≡ as_it_is type old leg block
   pub others : (leg block : ℕ) → writes_at leg block call ≡ false
@@ -61,6 +64,14 @@ pub record TakesAnswer {L : Type 0} (type : LegType L) (call : Call) (came : Cam
 pub record HandsOut {L : Type 0} (calls : List Call) (old new : World L) : Type 0 where
   pub legs : new.legs ≡ old.legs
   pub out : new.out ≡ map unmade calls ++ old.out
+  pub lost : new.lost ≡ old.lost
+
+-- A leg loses power: nothing is known of what is left of it.
+pub record LosesPowerAt {L : Type 0} (leg : ℕ) (old new : World L) : Type 0 where
+  pub part : L
+  pub legs : new.legs ≡ slice_set old.legs leg part
+  pub out : new.out ≡ old.out
+  pub lost : new.lost ≡ leg ∷ old.lost
 
 -- the call of a write that is asked for: none where it waits for a read
 abbrev pub asked_write : {L : Type 0} → (run leg block : ℕ) → Calling L → List Call
@@ -88,4 +99,5 @@ CallsOf type (AnswersSync s came ends) old new =
 CallsOf type (Begins block ds ticket) old new = HandsOut [] old new
 CallsOf type (Claims ticket names) old new = HandsOut [] old new
 CallsOf type (Fails leg) old new = HandsOut [] old new
-CallsOf type (Attaches leg) old new = HandsOut [] old new
+CallsOf type (Attaches leg) old new = HandsOut [] old new × (is_lost leg old.lost ≡ false)
+CallsOf type (LosesPower leg) old new = LosesPowerAt leg old new

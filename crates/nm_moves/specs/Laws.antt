@@ -1,5 +1,5 @@
 -- What holds while calls are out, after any moves: each call may be said to be made at its answer.
-use Rattle.std.specs.Prelude.{◌≡◌, ℕ, ◌<◌, true, false, List, [], ◌∷◌, ◌++◌, None, length}
+use Rattle.std.specs.Prelude.{◌≡◌, ℕ, ◌<◌, ◌==◌, true, false, List, [], ◌∷◌, ◌++◌, None, length}
 use Rattle.std.specs.Prelude.{slice_get}
 use Rattle.nm_replay.specs.Events.{Event, marks_of}
 use Rattle.nm_leg.specs.Leg.{Leg, LegType}
@@ -16,14 +16,15 @@ use Rattle.nm_calls.specs.CallsOut.{Calling, LegCalls, SyncFor}
 use Rattle.nm_calls.specs.Syncing.{next_sync}
 use Rattle.nm_moves.specs.Ends.{Finds, FindsStopped, StopsStripe, SyncIsGood}
 use Rattle.nm_moves.specs.Moves.{AnswersRead, AnswersSync, AnswersWrite, AsksSync, Begins, Claims}
-use Rattle.nm_moves.specs.Moves.{Makes, Move}
+use Rattle.nm_moves.specs.Moves.{LosesPower, Makes, Move}
 use Rattle.nm_moves.specs.Runs.{MoveOf, MovesRun, StepsRun}
 use Rattle.nm_moves.specs.World.{AreAsAnswered, Came, World, as_it_is, writes_at}
 
--- what holds at first: no call is out, the stripe keeps what every stripe keeps, and its legs are
+-- what holds at first: no call is out, no leg lost power, the stripe keeps what every stripe keeps, and its legs are
 -- as they were answered
 pub record Starts {L : Type 0} (type : LegType L) (w : World L) : Type 0 where
   pub none_out : w.out ≡ []
+  pub none_lost : w.lost ≡ []
   pub keeps : KeepsCalls answered w.calling
   pub same : AreAsAnswered type w
 
@@ -95,9 +96,10 @@ MovesAct {L} type =
     (moves : List Move) (old new : World L) → Starts type old → MovesRun type moves old new
     → NoneStops moves → ActOnOneArray moves old.calling new.calling
 
--- the move makes no write of this block of this leg
+-- the move makes no write of this block of this leg, and takes no power from it
 abbrev pub LeavesBlock : (leg block : ℕ) → Move → Type 0
 LeavesBlock leg block (Makes call came) = writes_at leg block call ≡ false
+LeavesBlock leg block (LosesPower other) = (other == leg) ≡ false
 LeavesBlock leg block move = Unit {0}
 
 -- so it is with each of these
@@ -105,8 +107,8 @@ abbrev pub LeaveBlock : (leg block : ℕ) → List Move → Type 0
 LeaveBlock leg block [] = Unit {0}
 LeaveBlock leg block (move ∷ moves) = LeavesBlock leg block move × LeaveBlock leg block moves
 
--- A sync of this leg is asked for; moves are done that make no write of this block there; and the
--- sync is answered, and was good.
+-- A sync of this leg is asked for; moves are done that leave this block of it; and the sync is
+-- answered, and was good.
 pub record SyncsOver {L : Type 0} (type : LegType L) (leg block : ℕ) (old new : World L)
     : Type 0 where
   pub asked_for : SyncFor

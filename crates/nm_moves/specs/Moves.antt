@@ -1,5 +1,5 @@
 -- What is done while calls are out: steps of the stripe, which make none, and the making of calls.
-use Rattle.std.specs.Prelude.{◌≡◌, ℕ, ◌<◌, List, length}
+use Rattle.std.specs.Prelude.{◌≡◌, ℕ, ◌<◌, true, List, length}
 use Rattle.nm_replay.specs.declared.block.Block.{Block}
 use Rattle.nm_fanout.specs.declared.record_data.RecordData.{RecordData}
 use Rattle.nm_leg.specs.Leg.{LegType}
@@ -7,6 +7,7 @@ use Rattle.nm_rules.specs.Failing.{GoesOut}
 use Rattle.nm_rules.specs.RunBegin.{BeginsRun}
 use Rattle.nm_rules.specs.RunClaim.{ClaimsRun}
 use Rattle.nm_rules.specs.Runs.{EntryNames, FitsRun}
+use Rattle.nm_rules.specs.State.{is_out, leg_state}
 use Rattle.nm_calls.specs.declared.read_out.ReadOut.{ReadOut}
 use Rattle.nm_calls.specs.Answers.{calls_lost}
 use Rattle.nm_calls.specs.Asking.{AsksRead as AsksToRead, AsksWrite as AsksToWrite}
@@ -15,7 +16,7 @@ use Rattle.nm_calls.specs.Syncing.{AsksSync as AsksToSync, AttachesOut}
 use Rattle.nm_moves.specs.World.{Call, Came}
 use Rattle.nm_moves.specs.Ends.{EndsRead, EndsSync, EndsWrite, ReadEnds, SyncEnds, WriteEnds}
 
--- a call is asked for, made or answered; and steps that make no call
+-- a call is asked for, made or answered; steps that make no call; and a leg that is out loses power
 pub data Move : Type 0 where
   AsksRead : (leg block count : ℕ) → Move
   AsksWrite : (run leg block : ℕ) → Move
@@ -28,6 +29,7 @@ pub data Move : Type 0 where
   Claims : (ticket : ℕ) → EntryNames → Move
   Fails : (leg : ℕ) → Move
   Attaches : (leg : ℕ) → Move
+  LosesPower : (leg : ℕ) → Move
 
 -- what a move does to the stripe and its calls, on legs of this type: a call is made by none
 abbrev pub StepOf : {L : Type 0} → LegType L → Move → (old new : Calling L) → Type 0
@@ -49,3 +51,5 @@ StepOf type (Claims ticket names) old new =
 StepOf type (Fails leg) old new =
     GoesOut old.stripe new.stripe leg × (new.calls ≡ calls_lost leg old.stripe old.calls)
 StepOf type (Attaches leg) old new = (leg < length old.stripe.legs) × AttachesOut old new leg
+StepOf type (LosesPower leg) old new =
+    (new ≡ old) × (is_out (leg_state leg old.stripe) ≡ true)

@@ -26,11 +26,13 @@ pub record Out : Type 0 where
   pub call : Call
   pub came : Option Came
 
--- a stripe with its calls, on its legs as they were answered; its legs as they are; and what is out
+-- a stripe with its calls, on its legs as they were answered; its legs as they are; what is out; and
+-- which legs lost power while they were out of the stripe
 pub record World (L : Type 0) : Type 0 where
   pub calling : Calling Leg
   pub legs : List L
   pub out : List Out
+  pub lost : List ℕ
 
 -- a call that is not made yet
 abbrev pub unmade : Call → Out
@@ -51,6 +53,10 @@ writes_at leg block (Syncs s) = false
 abbrev pub is_made_on : (leg block : ℕ) → List Out → Bool
 is_made_on leg block out = list_any (λ o. is_some o.came && writes_at leg block o.call) out
 
+-- whether the leg lost power
+abbrev pub is_lost : (leg : ℕ) → List ℕ → Bool
+is_lost leg lost = list_any (λ l. l == leg) lost
+
 -- what this leg holds at this block as it was answered
 abbrev pub as_answered : {L : Type 0} → World L → (leg block : ℕ) → Option Block
 as_answered w leg block = slice_get (contents_of (λ l. l) w.calling.stripe.legs leg) block
@@ -59,8 +65,9 @@ as_answered w leg block = slice_get (contents_of (λ l. l) w.calling.stripe.legs
 abbrev pub as_it_is : {L : Type 0} → LegType L → World L → (leg block : ℕ) → Option Block
 as_it_is type w leg block = slice_get (contents_of type.model w.legs leg) block
 
--- the legs are as they were answered, but where a write was made that is not answered
+-- the legs are as they were answered, but where a write was made that is not answered, or a leg
+-- lost power
 abbrev pub AreAsAnswered : {L : Type 0} → LegType L → World L → Type 0
 AreAsAnswered type w =
-    (leg block : ℕ) → is_made_on leg block w.out ≡ false
+    (leg block : ℕ) → is_lost leg w.lost ≡ false → is_made_on leg block w.out ≡ false
     → as_it_is type w leg block ≡ as_answered w leg block
