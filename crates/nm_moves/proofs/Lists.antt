@@ -20,7 +20,7 @@ use Rattle.nm_moves.specs.Laws.{ActOnOneArray, CallsAreMadeAtTheirAnswers, Hold,
 use Rattle.nm_moves.specs.Calls.{CallsOf, TakesAnswer}
 use Rattle.nm_moves.specs.Ends.{ComesLate, FindsStopped, EndsWrite, ReachesLeg, StopsStripe, TakesLegOut, WriteEnds}
 use Rattle.nm_moves.specs.Moves.{AnswersRead, AnswersSync, AnswersWrite, AsksRead, AsksSync, AsksWrite, Attaches, Begins, Claims, Fails, Makes, Move, StepOf, LosesPower}
-use Rattle.nm_moves.specs.Runs.{MoveOf, MovesRun, StepsRun, unbelieved}
+use Rattle.nm_moves.specs.Runs.{MoveOf, MovesRun, unbelieved, AreBelieved}
 use Rattle.nm_moves.specs.World.{AreAsAnswered, Came, Out, Reads, Syncs, World, Writes, made, is_lost}
 use Rattle.nm_moves.proofs.Carried.{syncs-same, begins-faces, claims-faces, reads-carry, were-lost, were-same, writes-lost, writes-same}
 use Rattle.nm_moves.proofs.FoundReads.{held, known-block}
@@ -242,11 +242,10 @@ module _ {L : Type 0} (type : LegType L) (is_honest : IsTrue type.honest) where
   }
 
   -- over all of the moves
-  made-all : (moves : List Move) (old new : World L) → InStep type old → MovesRun type moves old new → StepsRun answered moves old.calling new.calling
-  made-all [] old new s runs = ap (λ (w : World L). w.calling) runs
+  made-all : (moves : List Move) (old new : World L) → InStep type old → (runs : MovesRun type moves old new) → AreBelieved type moves old new runs
+  made-all [] old new s runs = tt
   made-all (move ∷ moves) old new s runs =
       let mid = runs.0 in (
-        mid.calling,
         believed type is_honest old mid s move runs.1.step runs.1.calls,
         made-all moves mid new (goes type is_honest old mid s move runs.1) runs.2,
       )

@@ -17,23 +17,22 @@ use Rattle.nm_calls.specs.Syncing.{next_sync}
 use Rattle.nm_moves.specs.Ends.{Finds, FindsStopped, StopsStripe, SyncIsGood}
 use Rattle.nm_moves.specs.Moves.{AnswersRead, AnswersSync, AnswersWrite, AsksSync, Begins, Claims}
 use Rattle.nm_moves.specs.Moves.{LosesPower, Makes, Move}
-use Rattle.nm_moves.specs.Runs.{MoveOf, MovesRun, StepsRun}
+use Rattle.nm_moves.specs.Runs.{AreBelieved, MoveOf, MovesRun}
 use Rattle.nm_moves.specs.World.{AreAsAnswered, Came, World, as_it_is, writes_at}
 
--- what holds at first: no call is out, no leg lost power, the stripe keeps what every stripe keeps, and its legs are
--- as they were answered
+-- what holds at first: no call is out, no leg lost power, the stripe keeps what every stripe keeps,
+-- and its legs are as they were answered
 pub record Starts {L : Type 0} (type : LegType L) (w : World L) : Type 0 where
   pub none_out : w.out ≡ []
   pub none_lost : w.lost ≡ []
   pub keeps : KeepsCalls answered w.calling
   pub same : AreAsAnswered type w
 
--- After any moves the steps among them are steps on honest legs, by each of which a call is made as
--- it is answered.
+-- Of any moves each step is one on honest legs, by which a call is made as it is answered.
 abbrev pub CallsAreMadeAtTheirAnswers : {L : Type 0} → LegType L → Type 0
 CallsAreMadeAtTheirAnswers {L} type =
-    (moves : List Move) (old new : World L) → Starts type old → MovesRun type moves old new
-    → StepsRun answered moves old.calling new.calling
+    (moves : List Move) (old new : World L) → Starts type old
+    → (runs : MovesRun type moves old new) → AreBelieved type moves old new runs
 
 -- each leg, as it is, holds the stripe's array at each block where it is current, unless a write is
 -- under way there

@@ -1,7 +1,7 @@
--- Moves one after the other: those of a stripe that knows no leg, and their steps on legs.
+-- Moves one after the other, of a stripe that knows no leg, and their steps on honest legs.
 use Rattle.std.specs.Prelude.{◌≡◌, false, List, [], ◌∷◌}
 use Rattle.nm_leg.specs.Leg.{Leg, LegType, leg_type}
-use Rattle.nm_calls.specs.CallsOut.{Calling}
+use Rattle.nm_calls.specs.AsAnswered.{answered}
 use Rattle.nm_moves.specs.World.{World}
 use Rattle.nm_moves.specs.Calls.{CallsOf}
 use Rattle.nm_moves.specs.Moves.{Move, StepOf}
@@ -21,8 +21,9 @@ MovesRun type [] old new = new ≡ old
 MovesRun {L} type (move ∷ moves) old new =
     (mid : World L) × MoveOf type move old mid × MovesRun type moves mid new
 
--- their steps, one after the other
-abbrev pub StepsRun : {L : Type 0} → LegType L → List Move → (old new : Calling L) → Type 0
-StepsRun type [] old new = new ≡ old
-StepsRun {L} type (move ∷ moves) old new =
-    (mid : Calling L) × StepOf type move old mid × StepsRun type moves mid new
+-- the step of each move is one on honest legs too, by which a call is made as it is answered
+abbrev pub AreBelieved : {L : Type 0} (type : LegType L) (moves : List Move) (old new : World L)
+    → MovesRun type moves old new → Type 0
+AreBelieved type [] old new runs = Unit {0}
+AreBelieved type (move ∷ moves) old new runs =
+    StepOf answered move old.calling runs.0.calling × AreBelieved type moves runs.0 new runs.2

@@ -26,8 +26,8 @@ pub record Out : Type 0 where
   pub call : Call
   pub came : Option Came
 
--- a stripe with its calls, on its legs as they were answered; its legs as they are; what is out; and
--- which legs lost power while they were out of the stripe
+-- a stripe with its calls, on its legs as they were answered; its legs as they are; what is out;
+-- and which legs lost power while they were out of the stripe
 pub record World (L : Type 0) : Type 0 where
   pub calling : Calling Leg
   pub legs : List L
