@@ -9,6 +9,7 @@ pub mod Joined
 pub mod Kept
 pub mod LateCounts
 pub mod LateLegs
+pub mod Leads
 pub mod Lists
 pub mod MadeCalls
 pub mod Outs

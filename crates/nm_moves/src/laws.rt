@@ -2,6 +2,7 @@
 ghost use Rattle.std.specs.Prelude.{IsTrue};
 ghost use Rattle.nm_leg.specs.Leg.{leg_type};
 ghost use Rattle.nm_moves.specs.Laws.{CallsAreMadeAtTheirAnswers, Hold, MovesAct, SyncsCover};
+ghost use Rattle.nm_moves.specs.Onward.{AnswersLead};
 
 use nm_leg::LegPart;
 
@@ -25,4 +26,10 @@ pub fn acts<L: LegPart>()
 /// durable.
 pub fn syncs_cover<L: LegPart>()
     ensures { IsTrue L.honest → SyncsCover (leg_type L.model L.honest) }
+{}
+
+/// Whatever a call came to, there are legs as answered that its answer leads to: the laws speak of
+/// every answer.
+pub fn answers_lead<L: LegPart>()
+    ensures { AnswersLead (leg_type L.model L.honest) }
 {}
