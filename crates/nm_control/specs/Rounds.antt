@@ -1,7 +1,7 @@
 -- A copier's round, and the mirror that it is of.
 use Rattle.std.specs.Prelude.{◌≡◌}
 use Rattle.nm_geometry.specs.Geometry.{Geometry}
-use Rattle.nm_mirror.specs.CopyRound.{Round}
+use Rattle.nm_holds.specs.CopyRound.{Round}
 
 -- the round is one of a mirror of this shape
 pub record IsRoundOf (shape : Geometry) (round : Round) : Type 0 where

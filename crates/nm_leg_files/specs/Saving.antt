@@ -2,7 +2,7 @@
 use Rattle.std.specs.Prelude.{◌≡◌, ◌⊎◌, ◌<◌, ℕ, Bool, IsTrue, IsFalse, List}
 use Rattle.std.specs.Int.{bit_at}
 use Rattle.nm_geometry.specs.LegSets.{has}
-use Rattle.nm_mirror.specs.declared.counts.FailCounts.{FailCounts}
+use Rattle.nm_locks.specs.declared.counts.FailCounts.{FailCounts}
 use Rattle.nm_leg_files.specs.declared.saving.AfterTry.{AfterTry}
 use Rattle.nm_leg_files.specs.declared.saving.AfterTry.TheVariants.{End, GiveUp, TakeOut}
 use Rattle.nm_superblock.specs.declared.leg_sets.LegSets.{LegSets}

@@ -11,10 +11,10 @@ use Rattle.nm_leg.specs.Leg.{LegType}
 use Rattle.nm_rules.specs.Cause.{first_cause, when}
 use Rattle.nm_rules.specs.State.{StripeState, is_last, is_out, leg_state}
 use Rattle.nm_rules.specs.declared.refusal.Refusal.TheVariants.{AlreadyOut, LastLeg, Stopped}
-use Rattle.nm_mirror.specs.Counted.{FailsEach, HaveStopped, OneMore, Start}
-use Rattle.nm_mirror.specs.Counts.{failed_so}
-use Rattle.nm_mirror.specs.Replacing.{IsLastIn, IsOnlyOne}
-use Rattle.nm_mirror.specs.declared.counts.FailCounts.{FailCounts}
+use Rattle.nm_locks.specs.Counted.{FailsEach, HaveStopped, OneMore, Start}
+use Rattle.nm_locks.specs.Counts.{failed_so}
+use Rattle.nm_holds.specs.Replacing.{IsLastIn, IsOnlyOne}
+use Rattle.nm_locks.specs.declared.counts.FailCounts.{FailCounts}
 
 abbrev counted : Bool → ℕ
 counted passes = cond passes 1 0

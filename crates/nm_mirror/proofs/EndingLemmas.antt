@@ -10,10 +10,11 @@ use Rattle.nm_history.specs.History.{LeadsTo}
 use Rattle.nm_history.proofs.Lists.{histories-go-on}
 use Rattle.nm_history.specs.Notes.{transitions}
 use Rattle.nm_leg.specs.Leg.{LegType}
-use Rattle.nm_mirror.specs.Ending.{ReplayAll, Replays, end_behind, end_of_held, past_of, pasts_of}
-use Rattle.nm_mirror.specs.LaneState.{LaneState}
-use Rattle.nm_mirror.specs.declared.held.Held.{Held}
-use Rattle.nm_mirror.specs.declared.lock.Unlocked.{Unlocked}
+use Rattle.nm_locks.specs.Ending.{end_behind, end_of_held, past_of}
+use Rattle.nm_mirror.specs.Ending.{ReplayAll, Replays, pasts_of}
+use Rattle.nm_locks.specs.LaneState.{LaneState}
+use Rattle.nm_locks.specs.declared.held.Held.{Held}
+use Rattle.nm_locks.specs.declared.lock.Unlocked.{Unlocked}
 use Rattle.nm_mirror.specs.declared.pass.Pass.{Pass}
 
 module _ {A : Type 0} where

@@ -2,11 +2,11 @@
 use Rattle.std.proofs.Common.{◌≡◌, ◌⊎◌, ⊎_elim, inl, inr, ℕ, zero, suc, ◌<◌, List, [], ◌∷◌, ◌++◌, length, Option, None, Some, IfSome, refl, sym, ap, subst, ◌∙◌, slice_get, slice_set, get_or, take, map, arith}
 use Rattle.std.proofs.lemmas.List.{length-map, length-set, take_at}
 use Rattle.std.proofs.lemmas.Option.{same_Some, slice_get-get_or, slice_get_read, slice_get_within}
-use Rattle.nm_mirror.proofs.OpenedLemmas.{mapped}
-use Rattle.nm_mirror.proofs.Places.{one_more}
+use Rattle.nm_holds.proofs.OpenedLemmas.{mapped}
+use Rattle.nm_locks.proofs.Places.{one_more}
 use Rattle.nm_mirror.specs.Glances.{AreGlancesAt, EachIsGlanceAt, IsGlanceAt}
 use Rattle.nm_mirror.specs.Numbers.{AreInOrder}
-use Rattle.nm_mirror.specs.Status.{TellsOf}
+use Rattle.nm_locks.specs.Status.{TellsOf}
 use Rattle.nm_mirror.specs.declared.glance.Glance.{Glance}
 
 -- none of them tells anything yet

@@ -18,7 +18,7 @@ use Rattle.nm_lanes.specs.Lists.{AreOf, MirrorStep, stripe_list}
 use Rattle.nm_lanes.specs.Lists as lists
 use Rattle.nm_lanes.proofs.Joining.{mirror-acts}
 use Rattle.nm_leg.specs.Leg.{LegType}
-use Rattle.nm_mirror.specs.JointHistory.{AreOfStripes, GoesOnFrom, HistoriesJoin, IsOfStripes, history_of, step_by, step_noted, steps_in_log}
+use Rattle.nm_locks.specs.JointHistory.{AreOfStripes, GoesOnFrom, HistoriesJoin, IsOfStripes, history_of, step_by, step_noted, steps_in_log}
 use Rattle.nm_stripe.specs.declared.answer.Answer.{Answer}
 use Rattle.nm_stripe.specs.declared.step.Step.{Step}
 use Rattle.nm_stripe.specs.Run.{ActOnOneArray}

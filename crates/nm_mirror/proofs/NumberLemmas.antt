@@ -5,10 +5,10 @@ use Rattle.std.proofs.lemmas.List.{length-map, reverse-append, reverse-reverse}
 use Rattle.std.proofs.lemmas.Option.{same_Some, slice_get_cases, slice_get_past}
 use Rattle.nm_geometry.specs.Geometry.{Geometry}
 use Rattle.nm_rules.specs.State.{StripeState}
-use Rattle.nm_mirror.proofs.OpenedLemmas.{mapped}
-use Rattle.nm_mirror.proofs.Places.{one_more}
+use Rattle.nm_holds.proofs.OpenedLemmas.{mapped}
+use Rattle.nm_locks.proofs.Places.{one_more}
 use Rattle.nm_mirror.specs.Numbers.{AreInOrder}
-use Rattle.nm_mirror.specs.Stripes.{EachIsNew}
+use Rattle.nm_holds.specs.Stripes.{EachIsNew}
 
 -- no lock yet: all stripes are left, last first
 pub none-locked : {A B C : Type 0} (f : A → C) (g : B → C) (xs : List A) (left all : List B) → xs ≡ [] → left ≡ reverse all → map f xs ++ map g (reverse left) ≡ map g all

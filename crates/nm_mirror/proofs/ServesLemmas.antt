@@ -12,8 +12,8 @@ use Rattle.nm_history.specs.declared.transition.Transition.{Transition}
 use Rattle.nm_leg.specs.Leg.{LegType}
 use Rattle.nm_lanes.specs.Done.{Done}
 use Rattle.nm_part.specs.PartState.{PartState}
-use Rattle.nm_mirror.specs.Hearing.{IsMove, IsOfThem, NoEntryServesTwo, StandBehind}
-use Rattle.nm_mirror.specs.Trail.{entries}
+use Rattle.nm_locks.specs.Hearing.{IsMove, IsOfThem, NoEntryServesTwo, StandBehind}
+use Rattle.nm_locks.specs.Trail.{entries}
 
 module _ {A : Type 0} where
   second-at : (xs ys : List A) (k : ℕ) → slice_get (xs ++ ys) (length xs + k) ≡ slice_get ys k

@@ -9,8 +9,8 @@ use Rattle.nm_history.specs.declared.transition.Noted.TheVariants.{Asked}
 use Rattle.nm_history.specs.Notes.{LegalNotes}
 use Rattle.nm_history.proofs.Notes.{asked-legal}
 use Rattle.nm_leg.specs.Leg.{LegType}
-use Rattle.nm_mirror.specs.Sessions.{ArrivalsAreNoted, Asks, HasCome, Hears, trail_of}
-use Rattle.nm_mirror.specs.Trail.{HasHistory}
+use Rattle.nm_locks.specs.Sessions.{ArrivalsAreNoted, Asks, HasCome, Hears, trail_of}
+use Rattle.nm_locks.specs.Trail.{HasHistory}
 
 module _ {E : Type 0} (legal : ℕ → List E → Type 0) where
   -- a log that goes on twice goes on

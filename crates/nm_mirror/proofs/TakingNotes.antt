@@ -6,10 +6,10 @@ use Rattle.nm_gate.specs.declared.gated_stripe.GatedStripe.{GatedStripe}
 use Rattle.nm_gate.specs.declared.leg_claims.LegClaims.{LegClaims}
 use Rattle.nm_history.specs.declared.transition.Noted.{Noted}
 use Rattle.nm_leg.specs.Leg.{LegType}
-use Rattle.nm_mirror.specs.Counted.{OneMore, Start}
-use Rattle.nm_mirror.specs.Saving.{BeginsAt, Takes}
-use Rattle.nm_mirror.specs.SavesNoted.{NotesSave, TakesEach, nothing_taken}
-use Rattle.nm_mirror.specs.declared.save_taking.Taken.{Taken}
+use Rattle.nm_locks.specs.Counted.{OneMore, Start}
+use Rattle.nm_locks.specs.Saving.{BeginsAt, Takes}
+use Rattle.nm_locks.specs.SavesNoted.{NotesSave, TakesEach, nothing_taken}
+use Rattle.nm_locks.specs.declared.save_taking.Taken.{Taken}
 
 -- what was taken is told by its parts
 taken-is : (taken other : Taken) → taken.claims ≡ other.claims → taken.spans ≡ other.spans → taken.out ≡ other.out → other ≡ taken

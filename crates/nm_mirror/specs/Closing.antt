@@ -1,8 +1,8 @@
 -- The end of a mirror: what its stripes have had, and what its passes counted.
 use Rattle.std.specs.Prelude.{◌≡◌, ◌<◌, ◌≤◌, ◌+◌, ℕ, List, Option, None, Some, length}
 use Rattle.std.specs.Prelude.{slice_get, sum_by, take, All}
-use Rattle.nm_mirror.specs.LaneState.{LaneState}
-use Rattle.nm_mirror.specs.Reopening.{EndOfOpenings, end_of_all}
+use Rattle.nm_locks.specs.LaneState.{LaneState}
+use Rattle.nm_locks.specs.Reopening.{EndOfOpenings, end_of_all}
 use Rattle.nm_mirror.specs.declared.pass.Pass.{Pass}
 use Rattle.nm_mirror.specs.declared.refused.Refused.{Refused}
 use Rattle.nm_mirror.specs.declared.refused.Refused.TheVariants.{Memory, PassesMissing, Uneven}

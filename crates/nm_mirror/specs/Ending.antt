@@ -8,29 +8,15 @@ use Rattle.nm_history.specs.declared.transition.Noted.{Noted}
 use Rattle.nm_history.specs.History.{LeadsTo}
 use Rattle.nm_history.specs.Notes.{LegalNotes, transitions}
 use Rattle.nm_leg.specs.Leg.{LegType}
-use Rattle.nm_mirror.specs.LaneState.{LaneState}
-use Rattle.nm_mirror.specs.Reopening.{EndOfOpenings}
-use Rattle.nm_mirror.specs.declared.held.Held.{Held}
-use Rattle.nm_mirror.specs.declared.lock.Unlocked.{Unlocked}
+use Rattle.nm_locks.specs.Reopening.{EndOfOpenings}
 use Rattle.nm_mirror.specs.declared.pass.Pass.{Pass}
 use Rattle.nm_stripe.specs.End.{end_of}
-
--- the pass of a lane through the log, once its calls are over
-abbrev pub past_of : {L : Type 0} → LaneState L → Past (Noted L)
-past_of lane = record { who = lane.pass.who; mine = lane.pass.mine; seen = lane.pass.seen }
+use Rattle.nm_locks.specs.Ending.{past_of}
 
 -- those of all parts of these passes, in order
 abbrev pub pasts_of : {L J : Type 0} → List (Pass L J) → List (Past (Noted L))
 pasts_of [] = []
 pasts_of (pass ∷ passes) = map past_of pass.parts.items ++ pasts_of passes
-
--- the end of what is held
-abbrev pub end_of_held : {L J : Type 0} {N : _} → Held L J N → EndOfOpenings
-end_of_held held = record { last = end_of held.gated.stripe; past = held.past }
-
--- the end of what was behind a lock
-abbrev pub end_behind : {L J : Type 0} {N : _} → Unlocked L J N → EndOfOpenings
-end_behind unlocked = end_of_held unlocked.held
 
 -- the shard has the history of the stripe of this end, and leads to a stripe that ends so
 pub record Replays {L : Type 0} (type : LegType L) (end : EndOfOpenings)

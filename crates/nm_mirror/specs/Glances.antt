@@ -1,7 +1,7 @@
 -- Of which stripe a glance tells.
 use Rattle.std.specs.Prelude.{◌≡◌, ℕ, List, length, slice_get, IfSome, Some}
 use Rattle.nm_mirror.specs.declared.glance.Glance.{Glance}
-use Rattle.nm_mirror.specs.Status.{TellsOf}
+use Rattle.nm_locks.specs.Status.{TellsOf}
 
 -- where it tells what a stripe does, it is the one of this number
 abbrev pub IsGlanceAt : (L : Type 0) → ℕ → Glance → Type 0

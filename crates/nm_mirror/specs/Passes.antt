@@ -2,7 +2,7 @@
 use Rattle.std.specs.Prelude.{◌≡◌, ◌<◌, ◌≤◌, ℕ, List, [], All}
 use Rattle.nm_book.specs.Log.{IsLegal}
 use Rattle.nm_leg.specs.Leg.{LegType}
-use Rattle.nm_mirror.specs.LaneState.{LaneState}
+use Rattle.nm_locks.specs.LaneState.{LaneState}
 use Rattle.nm_mirror.specs.declared.refused.Refused.{Refused}
 use Rattle.nm_mirror.specs.declared.refused.Refused.TheVariants.{Memory, TooMany}
 use Rattle.nm_history.specs.Notes.{LegalNotes}

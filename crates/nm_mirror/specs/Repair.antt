@@ -7,8 +7,8 @@ use Rattle.nm_lanes.specs.Runs.{runs_of_range}
 use Rattle.nm_lanes.specs.Writes.{HasWritten, FailsWriting}
 use Rattle.nm_lanes.specs.declared.write_fault.WriteFault.{WriteFault}
 use Rattle.nm_leg.specs.Leg.{LegType}
-use Rattle.nm_mirror.specs.Counting.{Follows}
-use Rattle.nm_mirror.specs.LaneState.{LaneState}
+use Rattle.nm_locks.specs.Counting.{Follows}
+use Rattle.nm_locks.specs.LaneState.{LaneState}
 use Rattle.nm_rules.specs.State.{StripeState}
 use Rattle.nm_verify.specs.Agreement.{Agrees}
 use Rattle.nm_verify.specs.declared.agreement.Agreed.{Agreed}

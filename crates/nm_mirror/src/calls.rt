@@ -5,15 +5,15 @@ ghost use Rattle.nm_lanes.specs.Flushes.{HasFlushed, HasFlushedSome, IsStripeOf,
 ghost use Rattle.nm_lanes.specs.Reads.{HasRead, HasReadSome};
 ghost use Rattle.nm_lanes.specs.Runs.{runs_of_range};
 ghost use Rattle.nm_leg.specs.Leg.{leg_type};
-ghost use Rattle.nm_mirror.specs.Counting.{Follows};
+ghost use Rattle.nm_locks.specs.Counting.{Follows};
 
-use crate::bounds::within_bounds;
-use crate::lock::Lock;
 use crate::mirror::Mirror;
 use crate::pass::Pass;
 use nm_book::Naming;
+use nm_holds::within_bounds;
 use nm_lanes::{CallError, Caller, Gate, flush_by, read_by, sync_by};
 use nm_leg::LegPart;
+use nm_locks::Lock;
 use nm_replay::BLOCK_BYTES;
 use std::sync::Wait;
 

@@ -2,14 +2,13 @@
 ghost use Rattle.std.specs.Prelude.{◌≡◌, ◌≤◌, ◌++◌, [], length, map, vec_capacity};
 ghost use Rattle.std.specs.Prelude.{IfOk, OnErr, OnOk};
 ghost use Rattle.nm_leg.specs.Leg.{leg_type};
-ghost use Rattle.nm_mirror.specs.Ending.{EndInOneLog, ReplayAll, end_behind, past_of, pasts_of};
+ghost use Rattle.nm_locks.specs.Ending.{end_behind, past_of};
+ghost use Rattle.nm_mirror.specs.Ending.{EndInOneLog, ReplayAll, pasts_of};
 
-use crate::lock::{Lock, Unlocked};
-use crate::part_lane::PartLane;
 use crate::pass::Pass;
-use crate::trail::{Log, LogCloser};
 use nm_book::Naming;
 use nm_leg::LegPart;
+use nm_locks::{Lock, Log, LogCloser, PartLane, Unlocked};
 use nm_replay::Memory;
 use std::alloc::Global;
 

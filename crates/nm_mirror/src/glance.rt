@@ -3,14 +3,12 @@
 ghost use Rattle.std.specs.Prelude.{◌≡◌, ◌<◌, ◌≤◌, length, map, None, IfOk, IfSome, OnOk};
 ghost use Rattle.nm_mirror.specs.Glances.{AreGlancesAt, EachIsGlanceAt, IsGlanceAt};
 
-use crate::last_entries::LastEntries;
-use crate::lock::Lock;
 use crate::mirror::Mirror;
-use crate::status::{StripeStatus, status_of};
 use nm_book::Naming;
 use nm_geometry::MOST_LEGS;
 use nm_lanes::Gate;
 use nm_leg::LegPart;
+use nm_locks::{LastEntries, Lock, StripeStatus, status_of};
 use nm_replay::Memory;
 use nm_stripe::Stripe;
 use std::alloc::Global;

@@ -2,16 +2,14 @@
 ghost use Rattle.std.specs.Prelude.{◌≡◌};
 ghost use mathlib.Core.List.{IsPrefix};
 ghost use Rattle.nm_leg.specs.Leg.{leg_type};
-ghost use Rattle.nm_mirror.specs.Hearing.{EachBecomes, HaveTold, LaneHears};
+ghost use Rattle.nm_locks.specs.Hearing.{EachBecomes, HaveTold, LaneHears};
 
 use crate::mirror::Mirror;
-use crate::part_lane::PartLane;
 use crate::pass::Pass;
-use crate::pass_shard::{PassShard, WasTold};
-use crate::trail::{Log, LogPass, LogTold};
 use nm_book::Naming;
 use nm_lanes::Gate;
 use nm_leg::LegPart;
+use nm_locks::{Log, LogPass, LogTold, PartLane, PassShard, WasTold};
 use std::marker::Brand;
 
 /// Has each of these lanes take in what this pass has seen, which has what was told, and note in

@@ -1,97 +1,16 @@
 //! Takes a leg out of every stripe.
-ghost use Rattle.std.specs.Prelude.{◌≡◌, ◌+◌, ◌-◌, ◌^◌, ◌<◌, length, None, IsSome};
+ghost use Rattle.std.specs.Prelude.{◌≡◌, ◌+◌, ◌-◌, ◌^◌, ◌<◌};
 ghost use Rattle.nm_leg.specs.Leg.{leg_type};
-ghost use Rattle.nm_mirror.specs.Counted.{FailsEach, FailsIn, fail_answer};
-ghost use Rattle.nm_mirror.specs.Counts.{failed_so, fails};
-ghost use Rattle.nm_mirror.specs.Holding.{with_stripe};
-ghost use Rattle.nm_mirror.specs.OwnNotes.{NotesFail};
-ghost use Rattle.nm_rules.specs.Failing.{GoesOut, fail_cause};
+ghost use Rattle.nm_locks.specs.Counted.{FailsEach, FailsIn};
+ghost use Rattle.nm_locks.specs.Counts.{fails};
 
-use crate::counts::FailCounts;
-use crate::held::Held;
 use crate::mirror::Mirror;
-use crate::trail::LogPass;
 use nm_book::Naming;
-use nm_geometry::MOST_LEGS;
+use nm_holds::{fail_if_there, spoils_copies};
 use nm_lanes::{CallKind, Gate, StepKind};
 use nm_leg::LegPart;
-use nm_stripe::{LegState, Refusal, Stripe};
+use nm_locks::{FailCounts, LogPass};
 use std::sync::Wait;
-
-/// Takes the leg out of this stripe, and counts what came of it.
-fn fail_in<L: LegPart, J: Naming>(
-    held: &mut Held<L, J>,
-    pass: &mut LogPass<L, J>,
-    leg: u8,
-    counts: &mut FailCounts,
-)
-    requires leg { leg < length held.old.gated.stripe.legs }
-    requires room { fails counts.old < 2 ^ 64 - 1 }
-    ensures counts { counts.new ≡ failed_so (fail_cause held.old.gated.stripe leg) counts.old }
-    ensures one { fails counts.new ≡ fails counts.old + 1 }
-    ensures fails { fail_cause held.old.gated.stripe leg ≡ None
-        → GoesOut held.old.gated.stripe held.new.gated.stripe leg }
-    ensures stays { IsSome (fail_cause held.old.gated.stripe leg)
-        → held.new.gated.stripe ≡ held.old.gated.stripe }
-    ensures others { held.new ≡ with_stripe held.new.gated.stripe held.old }
-    ensures notes { NotesFail (leg_type L.model L.honest) leg (held.old.gated, held.new.gated)
-        pass.old pass.new }
-{
-    match held.fail_leg(pass, leg) {
-        Ok(_) => counts.failed += 1,
-        Err(Refusal::Stopped) => counts.stopped += 1,
-        Err(Refusal::AlreadyOut) => counts.out += 1,
-        Err(_) => counts.last += 1,
-    }
-}
-
-/// The same in a stripe that may have no such leg, which it tells as out: then the pass looks.
-fn fail_if_there<L: LegPart, J: Naming>(
-    held: &mut Held<L, J>,
-    pass: &mut LogPass<L, J>,
-    leg: u8,
-    counts: &mut FailCounts,
-)
-    requires room { fails counts.old < 2 ^ 64 - 1 }
-    ensures counts { counts.new ≡ failed_so (fail_answer held.old.gated.stripe leg) counts.old }
-    ensures one { fails counts.new ≡ fails counts.old + 1 }
-    ensures fails { fail_answer held.old.gated.stripe leg ≡ None
-        → GoesOut held.old.gated.stripe held.new.gated.stripe leg }
-    ensures stays { IsSome (fail_answer held.old.gated.stripe leg)
-        → held.new.gated.stripe ≡ held.old.gated.stripe }
-    ensures others { held.new ≡ with_stripe held.new.gated.stripe held.old }
-    ensures notes { NotesFail (leg_type L.model L.honest) leg (held.old.gated, held.new.gated)
-        pass.old pass.new }
-{
-    if (leg as usize) < held.gated.stripe.legs() {
-        fail_in(held, pass, leg, counts);
-    } else if held.gated.stripe.is_stopped() {
-        counts.stopped += 1;
-        held.look(pass);
-    } else {
-        counts.out += 1;
-        held.look(pass);
-    }
-}
-
-/// Whether the leg joins the stripe, or is its master while another one joins.
-fn spoils_copies<L: LegPart>(stripe: &Stripe<L>, leg: u8) -> bool
-    requires { leg < length stripe.now.legs }
-{
-    if stripe.state(leg) == LegState::Joining {
-        return true;
-    }
-    if stripe.master() != leg {
-        return false;
-    }
-    let count = stripe.legs().min(MOST_LEGS as usize);
-    for other in 0..count as u8 {
-        if stripe.state(other) == LegState::Joining {
-            return true;
-        }
-    }
-    false
-}
 
 impl<L: LegPart, G: Gate + Drop, J: Naming> Mirror<L, G, J> {
     /// Takes the leg out of every stripe, and counts what came of it. It waits for no superblock,
@@ -143,7 +62,7 @@ impl<L: LegPart, G: Gate + Drop, J: Naming> Mirror<L, G, J> {
             let mut held = lock.hold(rt);
             let there = (leg as usize) < held.gated.stripe.legs();
             if there && spoils_copies(&held.gated.stripe, leg) {
-                let mut pass = held.trail.pass();
+                let mut pass = held.pass();
                 let _ = held.fail_leg(&mut pass, leg);
             }
         }

@@ -1,9 +1,9 @@
 //! What follows of the one log of a mirror. Each function does nothing: its contract is the law.
 ghost use Rattle.std.specs.Prelude.{IsTrue};
 ghost use Rattle.nm_leg.specs.Leg.{leg_type};
-ghost use Rattle.nm_mirror.specs.Hearing.{HeardCallsComeFirst, NoEntryServesTwo};
-ghost use Rattle.nm_mirror.specs.JointHistory.{HistoriesJoin};
-ghost use Rattle.nm_mirror.specs.Sessions.{ArrivalsAreNoted};
+ghost use Rattle.nm_locks.specs.Hearing.{HeardCallsComeFirst, NoEntryServesTwo};
+ghost use Rattle.nm_locks.specs.JointHistory.{HistoriesJoin};
+ghost use Rattle.nm_locks.specs.Sessions.{ArrivalsAreNoted};
 
 use nm_leg::LegPart;
 

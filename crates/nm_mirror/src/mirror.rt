@@ -3,17 +3,14 @@ ghost use Rattle.nm_book.specs.Log.{shard_of};
 ghost use Rattle.std.specs.Sync.Mutex.{mutex_guard_value};
 ghost use Rattle.std.specs.Vec.{vec_len};
 ghost use Rattle.nm_mirror.specs.Numbers.{AreInOrder};
-ghost use Rattle.nm_mirror.specs.Stripes.{AreStripesOf};
+ghost use Rattle.nm_holds.specs.Stripes.{AreStripesOf};
 
-use crate::held::Held;
-use crate::lock::{Beside, Lock};
-use crate::save_desk::SaveDesk;
-use crate::trail::{EmptyLog, Log, LogPass, ShardKeepers};
 use nm_book::Naming;
 use nm_gate::GatedStripe;
 use nm_geometry::Shape;
 use nm_lanes::{CallKind, Gate, Place, StepKind};
 use nm_leg::LegPart;
+use nm_locks::{Beside, EmptyLog, Held, Lock, Log, LogPass, SaveDesk, ShardKeepers};
 use nm_replay::Memory;
 use std::alloc::{AllocError, Global};
 use std::sync::atomic::{AtomicU32, Ordering};
@@ -160,7 +157,7 @@ impl<L: LegPart, G: Gate + Drop, J: Naming> Mirror<L, G, J> {
     }
 
     /// The locks, by rising number of their stripes. No lock stands round them.
-    pub fn locks(&self) -> &[Lock<L, J>]
+    pub(crate) fn locks(&self) -> &[Lock<L, J>]
         ensures all { length result.now ≡ self.now.shape.stripes }
         ensures numbers { AreInOrder (map (λ lock. lock.number) result.now) }
     {

@@ -7,13 +7,11 @@ ghost use Rattle.nm_mirror.specs.Passes.{HasCountedNothing, HasNotedNothing, Ref
 ghost use Rattle.nm_mirror.specs.Passes.{RefusesPass};
 
 use crate::mirror::Mirror;
-use crate::part_lane::PartLane;
-use crate::pass_shard::PassShard;
 use crate::refused::Refused;
-use crate::sight::Sight;
 use nm_book::Naming;
 use nm_lanes::Gate;
 use nm_leg::LegPart;
+use nm_locks::{PartLane, PassShard, Sight};
 use std::alloc::Global;
 use std::sync::Wait;
 

@@ -2,8 +2,8 @@ ghost use Rattle.std.specs.Prelude.{◌≡◌, Some};
 ghost use Rattle.nm_mirror.specs.Refused.{number_of, refused_for, refused_text};
 ghost use Rattle.nm_mirror.specs.declared.refused.Refused.TheVariants.{Io};
 
-use crate::stripe_end::StripeEnd;
 use nm_lanes::{CallError, WriteFault};
+use nm_locks::StripeEnd;
 use std::error::Error;
 use std::fmt;
 

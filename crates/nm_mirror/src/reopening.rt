@@ -1,15 +1,14 @@
 //! Stripes that stopped are opened anew, and saves that could not be done are tried again.
 ghost use Rattle.std.specs.Prelude.{◌≡◌, ◌<◌};
 ghost use Rattle.nm_mirror.specs.Reopening.{EndsReopening, HasStopped, left_to_all};
-ghost use Rattle.nm_mirror.specs.Stripes.{place_of};
+ghost use Rattle.nm_holds.specs.Stripes.{place_of};
 
-use crate::ask::Ask;
-use crate::bounds::within_bounds;
 use crate::mirror::Mirror;
-use crate::opening::{have_all, place_of};
 use nm_book::Naming;
+use nm_holds::{have_all, place_of, within_bounds};
 use nm_lanes::Gate;
 use nm_leg::LegPart;
+use nm_locks::Ask;
 use nm_stripe::{Policy, Stripe};
 use std::alloc::Global;
 use std::sync::Wait;

@@ -2,19 +2,16 @@
 //! durable.
 ghost use Rattle.std.specs.Prelude.{◌≡◌, ◌<◌, Bool, List};
 ghost use Rattle.nm_leg.specs.Leg.{leg_type};
-ghost use Rattle.nm_mirror.specs.Saving.{AreAmong, EndsAt, FailsAt, IsTaken, taken_for};
-ghost use Rattle.nm_mirror.specs.SavesNoted.{SavesEach, SavesIn, TakesEach};
+ghost use Rattle.nm_locks.specs.Saving.{AreAmong, EndsAt, FailsAt, IsTaken, taken_for};
+ghost use Rattle.nm_locks.specs.SavesNoted.{SavesEach, SavesIn, TakesEach};
 
-use crate::bounds::within_bounds;
 use crate::mirror::Mirror;
-use crate::save_desk::{MOST_SPANS, Wanted};
-use crate::save_order::SaveOrder;
-use crate::save_taking::{Taken, join_marks};
-use crate::trail::LogPass;
 use nm_book::Naming;
 use nm_geometry::LegSet;
+use nm_holds::within_bounds;
 use nm_lanes::Gate;
 use nm_leg::LegPart;
+use nm_locks::{LogPass, MOST_SPANS, SaveOrder, Taken, Wanted, join_marks};
 use nm_saves::Saved;
 use std::sync::Wait;
 use std::time::{Clock, Duration};

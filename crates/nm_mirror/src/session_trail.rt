@@ -3,15 +3,15 @@ ghost use Rattle.std.specs.Prelude.{◌≡◌, []};
 ghost use Rattle.nm_book.specs.Log.{IsLegal};
 ghost use Rattle.nm_history.specs.Notes.{LegalNotes};
 ghost use Rattle.nm_leg.specs.Leg.{leg_type};
-ghost use Rattle.nm_mirror.specs.Sessions.{Asks, HasCome, Hears};
+ghost use Rattle.nm_locks.specs.Sessions.{Asks, HasCome, Hears};
 
 use crate::mirror::Mirror;
-use crate::trail::{Log, LogPass, LogTold, ShardKeeper};
 use bytes::Bytes;
 use nm_book::{Naming, Notes};
 use nm_history::Noted;
 use nm_lanes::Gate;
 use nm_leg::LegPart;
+use nm_locks::{Log, LogPass, LogTold, ShardKeeper};
 use std::marker::Model;
 use std::sync::Wait;
 
@@ -36,8 +36,8 @@ pub struct SessionTrail<'a, L: LegPart, J: Naming> {
 
 impl<'a, L: LegPart, J: Naming> Model for SessionTrail<'a, L, J> {
     ghost use Rattle.nm_leg.specs.Leg.{leg_type};
-    ghost use Rattle.nm_mirror.specs.Sessions.{TrailState, trail_of};
-    ghost use Rattle.nm_mirror.specs.Trail.{HasHistory};
+    ghost use Rattle.nm_locks.specs.Sessions.{TrailState, trail_of};
+    ghost use Rattle.nm_locks.specs.Trail.{HasHistory};
 
     ghost Value = { TrailState L };
 

@@ -1,6 +1,6 @@
 ghost use Rattle.std.specs.Prelude.{◌≡◌};
 
-use crate::stripe_end::StripeEnd;
+use nm_locks::StripeEnd;
 
 /// What a closed mirror's stripes have had: one end a stripe.
 #[derive(Drop)]

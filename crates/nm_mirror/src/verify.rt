@@ -5,9 +5,9 @@ ghost use Rattle.nm_rules.specs.declared.at.At.{At};
 ghost use Rattle.nm_mirror.specs.Verify.{Looks, LooksFirst, LooksSecond};
 ghost use Rattle.nm_verify.specs.Verification.{noted};
 
-use crate::bounds::within_bounds;
 use crate::mirror::Mirror;
 use nm_book::Naming;
+use nm_holds::within_bounds;
 use nm_lanes::Gate;
 use nm_leg::LegPart;
 use nm_stripe::At;

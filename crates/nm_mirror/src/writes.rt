@@ -5,13 +5,13 @@ ghost use Rattle.nm_lanes.specs.Cuts.{cuts_for, zeroes_for};
 ghost use Rattle.nm_lanes.specs.Runs.{runs_of_range};
 ghost use Rattle.nm_lanes.specs.Writes.{HasWritten, HasWrittenSome, FailsWriting};
 ghost use Rattle.nm_leg.specs.Leg.{leg_type};
-ghost use Rattle.nm_mirror.specs.Counting.{Follows};
+ghost use Rattle.nm_locks.specs.Counting.{Follows};
 
-use crate::bounds::within_bounds;
 use crate::mirror::Mirror;
 use crate::pass::Pass;
 use bytes::Bytes;
 use nm_book::Naming;
+use nm_holds::within_bounds;
 use nm_lanes::{CallError, Gate, WriteFault, write_by, zero_by};
 use nm_leg::LegPart;
 use nm_replay::BLOCK_BYTES;

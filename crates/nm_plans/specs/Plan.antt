@@ -14,7 +14,7 @@ use Rattle.nm_rules.specs.Reopening.{Marks, OpeningPlan}
 use Rattle.nm_rules.specs.State.{StripeState}
 use Rattle.nm_gate.specs.Durable.{Durable, is_lacking, is_listed, is_named}
 use Rattle.nm_gate.specs.MarkedStart.{IsPlanBy}
-use Rattle.nm_mirror.specs.declared.marked_opening.StripeStart.{StripeStart}
+use Rattle.nm_holds.specs.declared.marked_opening.StripeStart.{StripeStart}
 use Rattle.nm_plans.specs.declared.starts.Unplanned.{Unplanned}
 use Rattle.nm_plans.specs.declared.starts.Unplanned.TheVariants.{Memory, Nameless}
 use Rattle.nm_plans.specs.Sets.{AreMarksOf}

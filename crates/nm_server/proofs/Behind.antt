@@ -16,12 +16,12 @@ use Rattle.nm_lanes.specs.Lists.{Does, MirrorStep}
 use Rattle.nm_lanes.specs.declared.call_error.CallError.{CallError}
 use Rattle.nm_lanes.specs.declared.call_error_kind.CallErrorKind.{CallErrorKind}
 use Rattle.nm_leg.specs.Leg.{LegType}
-use Rattle.nm_mirror.specs.Counting.{Follows}
-use Rattle.nm_mirror.specs.Hearing.{EachBecomes, HasHeard, HaveHeard, HaveTold, HeardCallsComeFirst}
-use Rattle.nm_mirror.specs.Joining.{lane-joined, lane-stays}
-use Rattle.nm_mirror.specs.LaneState.{LaneState}
-use Rattle.nm_mirror.proofs.HearingLemmas.{each-long, each-on, each-self, heard-on, hears-heard}
-use Rattle.nm_mirror.specs.Sessions.{HasCome}
+use Rattle.nm_locks.specs.Counting.{Follows}
+use Rattle.nm_locks.specs.Hearing.{EachBecomes, HasHeard, HaveHeard, HaveTold, HeardCallsComeFirst}
+use Rattle.nm_locks.specs.Joining.{lane-joined, lane-stays}
+use Rattle.nm_locks.specs.LaneState.{LaneState}
+use Rattle.nm_locks.proofs.HearingLemmas.{each-long, each-on, each-self, heard-on, hears-heard}
+use Rattle.nm_locks.specs.Sessions.{HasCome}
 use Rattle.nm_server.specs.Calls.{Acts, ActsBy, LeadBy, LeadMirror, Leads, PassHears, PassState}
 use Rattle.nm_server.specs.Replies.{FollowsBehind, StandsInTheLog}
 use Rattle.nm_session.specs.CalledValue.{CalledValue}

@@ -9,8 +9,8 @@ use Rattle.nm_history.specs.declared.transition.Noted.{Noted}
 use Rattle.nm_history.specs.declared.transition.Noted.TheVariants as arrival
 use Rattle.nm_lanes.specs.Done.{Done}
 use Rattle.nm_leg.specs.Leg.{LegType}
-use Rattle.nm_mirror.specs.Hearing.{HaveTold, HeardCallsComeFirst, StandBehind}
-use Rattle.nm_mirror.specs.Sessions as trail
+use Rattle.nm_locks.specs.Hearing.{HaveTold, HeardCallsComeFirst, StandBehind}
+use Rattle.nm_locks.specs.Sessions as trail
 use Rattle.nm_part.specs.PartState.{PartState}
 use Rattle.nm_session.specs.declared.session_log.SessionLog as log
 use Rattle.nm_session.specs.declared.target.Target as target

@@ -14,9 +14,9 @@ use Rattle.nm_lanes.specs.Reads.{HasRead, HasReadSome}
 use Rattle.nm_lanes.specs.Runs.{runs_of_range}
 use Rattle.nm_lanes.specs.Writes.{HasWritten, HasWrittenSome}
 use Rattle.nm_leg.specs.Leg.{LegType}
-use Rattle.nm_mirror.specs.Counting.{Follows}
-use Rattle.nm_mirror.specs.Hearing.{EachBecomes, LaneHears}
-use Rattle.nm_mirror.specs.LaneState.{LaneState}
+use Rattle.nm_locks.specs.Counting.{Follows}
+use Rattle.nm_locks.specs.Hearing.{EachBecomes, LaneHears}
+use Rattle.nm_locks.specs.LaneState.{LaneState}
 use Rattle.nm_mirror.specs.declared.pass.Pass.{Pass}
 use Rattle.nm_reports.specs.declared.mirror_call.MirrorCall.{MirrorCall}
 use Rattle.nm_reports.specs.declared.mirror_call.MirrorCall.TheVariants as mirror

@@ -6,8 +6,8 @@ use Rattle.nm_geometry.specs.Geometry.{Geometry}
 use Rattle.nm_history.specs.declared.transition.Noted.{Noted}
 use Rattle.nm_lanes.specs.Done.{Done}
 use Rattle.nm_leg.specs.Leg.{LegType}
-use Rattle.nm_mirror.specs.LaneState.{LaneState}
-use Rattle.nm_mirror.specs.Sessions as trail
+use Rattle.nm_locks.specs.LaneState.{LaneState}
+use Rattle.nm_locks.specs.Sessions as trail
 use Rattle.nm_server.specs.Calls.{LeadBy}
 use Rattle.nm_server.specs.Replies.{Begins, FollowsBehind}
 use Rattle.nm_session.specs.declared.outcome.Outcome.{Outcome}

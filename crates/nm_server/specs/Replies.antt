@@ -5,9 +5,9 @@ use Rattle.nm_geometry.specs.Geometry.{Geometry}
 use Rattle.nm_history.specs.declared.transition.Noted.{Noted}
 use Rattle.nm_lanes.specs.Done.{Done}
 use Rattle.nm_leg.specs.Leg.{LegType}
-use Rattle.nm_mirror.specs.Counting.{Follows}
-use Rattle.nm_mirror.specs.Hearing.{StandBehind}
-use Rattle.nm_mirror.specs.LaneState.{LaneState}
+use Rattle.nm_locks.specs.Counting.{Follows}
+use Rattle.nm_locks.specs.Hearing.{StandBehind}
+use Rattle.nm_locks.specs.LaneState.{LaneState}
 use Rattle.nm_server.specs.Calls.{LeadBy}
 use Rattle.nm_session.specs.declared.outcome.Outcome.{Outcome}
 use Rattle.nm_session.specs.declared.session_log.SessionLog as log

@@ -3,7 +3,7 @@ ghost use Rattle.std.specs.Prelude.{◌≡◌, List};
 ghost use Rattle.nm_book.specs.declared.rule.Entry.{Entry};
 ghost use Rattle.nm_history.specs.declared.transition.Noted.{Noted};
 ghost use Rattle.nm_leg.specs.Leg.{leg_type};
-ghost use Rattle.nm_mirror.specs.Hearing.{EachBecomes, HaveTold, LaneHears};
+ghost use Rattle.nm_locks.specs.Hearing.{EachBecomes, HaveTold, LaneHears};
 
 use nm_lanes::Gate;
 use nm_leg::LegPart;

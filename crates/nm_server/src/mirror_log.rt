@@ -27,7 +27,7 @@ impl<'a, L: LegPart, J: Naming> MirrorLog<'a, L, J> {
 
 impl<'a, L: LegPart + Send, J: Naming + Send + Sync> SessionLog for MirrorLog<'a, L, J> {
     ghost use Rattle.nm_leg.specs.Leg.{leg_type};
-    ghost use Rattle.nm_mirror.specs.Sessions.{Asks, HasCome, Hears};
+    ghost use Rattle.nm_locks.specs.Sessions.{Asks, HasCome, Hears};
 
     type Told = LogTold<L, J>;
 

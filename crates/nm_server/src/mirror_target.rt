@@ -1,7 +1,7 @@
 //! What a session's requests act on: a mirror, through a pass.
 ghost use Rattle.std.specs.Prelude.{◌≡◌, ◌*◌, ◌≤◌, ◌↔◌, [], ◌∷◌, length, IsSome, IfSome};
 ghost use Rattle.nm_leg.specs.Leg.{leg_type};
-ghost use Rattle.nm_mirror.specs.Hearing.{HaveTold};
+ghost use Rattle.nm_locks.specs.Hearing.{HaveTold};
 ghost use Rattle.nm_server.specs.Calls.{IsEven, IsInside, Leads, PassHears, answered};
 ghost use Rattle.nm_server.specs.Calls.{leads-nowhere, leads-on, state_of};
 
@@ -154,7 +154,7 @@ impl<
     D: Send + Drop,
     K: SessionLog<Told = D> + Send + Drop,
 > Target for MirrorTarget<'a, L, J, C, M, H, D, K> {
-    ghost use Rattle.nm_mirror.specs.Hearing.{HaveTold};
+    ghost use Rattle.nm_locks.specs.Hearing.{HaveTold};
 
     type Told = D;
 

@@ -14,7 +14,7 @@ use Rattle.nm_rules.specs.declared.leg_opening.LegOpening.TheVariants.{Missing, 
 use Rattle.nm_rules.specs.Reopening.{Marks}
 use Rattle.nm_gate.specs.Durable.{Durable, is_lacking, is_named}
 use Rattle.nm_gate.specs.MarkedStart.{IsPlanBy}
-use Rattle.nm_mirror.specs.declared.marked_opening.StripeStart.{StripeStart}
+use Rattle.nm_holds.specs.declared.marked_opening.StripeStart.{StripeStart}
 use Rattle.nm_commands.specs.declared.opening_settings.OpeningSettings.{OpeningSettings}
 use Rattle.nm_plans.specs.Plan.{IsDurableOf, IsStartOf, opening_of, plan_of}
 use Rattle.nm_plans.specs.Sets.{AreMarksOf}

@@ -4,8 +4,8 @@ use Rattle.nm_choice.specs.declared.policy.Policy.{Policy}
 use Rattle.nm_geometry.specs.Geometry.{Geometry}
 use Rattle.nm_leg_files.specs.Files.{LegPlace, mirror_places}
 use Rattle.nm_leg_files.specs.declared.leg_files.LegFiles.{LegFiles}
-use Rattle.nm_mirror.specs.Marked.{AreMarked}
-use Rattle.nm_mirror.specs.declared.marked_opening.StripeStart.{StripeStart}
+use Rattle.nm_holds.specs.Marked.{AreMarked}
+use Rattle.nm_holds.specs.declared.marked_opening.StripeStart.{StripeStart}
 use Rattle.nm_plans.specs.Plan.{AreStartsOf}
 use Rattle.nm_plans.specs.Sets.{AreMarksOf}
 use Rattle.nm_rules.specs.State.{StripeState}

@@ -3,7 +3,7 @@ use Rattle.std.specs.Prelude.{◌≡◌, ◌<◌, ◌≤◌, ℕ, Bool, List}
 use Rattle.nm_commands.specs.declared.opening_settings.OpeningSettings.{OpeningSettings}
 use Rattle.nm_gate.specs.Durable.{Durable}
 use Rattle.nm_gate.specs.MarkedStart.{IsPlanBy}
-use Rattle.nm_mirror.specs.declared.marked_opening.StripeStart.{StripeStart}
+use Rattle.nm_holds.specs.declared.marked_opening.StripeStart.{StripeStart}
 use Rattle.nm_plans.specs.Plan.{IsDurableOf, IsStartOf, plan_of}
 use Rattle.nm_plans.specs.Sets.{AreMarksOf}
 use Rattle.nm_rules.specs.Reopening.{Marks}

@@ -3,7 +3,7 @@ use Rattle.std.specs.Prelude.{◌≡◌, List, map}
 use Rattle.nm_leg.specs.Leg.{LegType}
 use Rattle.nm_leg_files.specs.Files.{LegPlace, mirror_places}
 use Rattle.nm_leg_files.specs.declared.leg_files.LegFiles.{LegFiles}
-use Rattle.nm_mirror.specs.Opening.{Asked, AreAllOpened}
+use Rattle.nm_holds.specs.Opening.{Asked, AreAllOpened}
 use Rattle.nm_rules.specs.State.{StripeState}
 
 -- the stripes were opened as was asked for, each on legs that stand on their own files

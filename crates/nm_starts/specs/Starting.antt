@@ -6,10 +6,10 @@ use Rattle.nm_commands.specs.declared.start.Start as asked
 use Rattle.nm_commands.specs.declared.start.Start.TheVariants as asked_start
 use Rattle.nm_geometry.specs.Geometry.{Geometry}
 use Rattle.nm_leg.specs.Leg.{LegType}
-use Rattle.nm_mirror.specs.Opening.{Asked, AreAllOpened, RefusesOpening}
-use Rattle.nm_mirror.specs.declared.mirror_fault.MirrorFault.TheVariants.{MasterFault}
-use Rattle.nm_mirror.specs.declared.initial_sync.InitialSync as mirror
-use Rattle.nm_mirror.specs.declared.initial_sync.InitialSync.TheVariants as mirror_start
+use Rattle.nm_holds.specs.Opening.{Asked, AreAllOpened, RefusesOpening}
+use Rattle.nm_holds.specs.declared.mirror_fault.MirrorFault.TheVariants.{MasterFault}
+use Rattle.nm_holds.specs.declared.initial_sync.InitialSync as mirror
+use Rattle.nm_holds.specs.declared.initial_sync.InitialSync.TheVariants as mirror_start
 use Rattle.nm_rules.specs.State.{StripeState}
 use Rattle.nm_starts.specs.Alike.{AreAlike}
 use Rattle.nm_reports.specs.declared.start_fault.StartFault.{StartFault}

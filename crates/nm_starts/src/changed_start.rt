@@ -1,6 +1,6 @@
 //! A start that finds all legs changed since the mirror ended, as after their holes were dug.
 ghost use Rattle.std.specs.Prelude.{IfOk, IfNone, IfSome};
-ghost use Rattle.nm_mirror.specs.Stripes.{AreStripesOf};
+ghost use Rattle.nm_holds.specs.Stripes.{AreStripesOf};
 ghost use Rattle.nm_starts.specs.Alike.{AreAlike};
 ghost use Rattle.nm_starts.specs.ChangedStart.{IsAsItWas, IsOtherStart};
 

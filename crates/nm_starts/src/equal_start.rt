@@ -5,7 +5,7 @@ ghost use Rattle.nm_leg.specs.Leg.{leg_type};
 ghost use Rattle.nm_leg_files.specs.Files.{leg_place};
 ghost use Rattle.nm_rules.specs.Opening.{HoldEqual};
 ghost use Rattle.nm_stripe.specs.Opening.{NamesALeg};
-ghost use Rattle.nm_mirror.specs.Stripes.{AreStripesOf};
+ghost use Rattle.nm_holds.specs.Stripes.{AreStripesOf};
 ghost use Rattle.nm_starts.specs.Alike.{AreAlike};
 ghost use Rattle.nm_starts.specs.OpenedOn.{AreOpenedOn};
 ghost use Rattle.nm_starts.specs.Starting.{asked_by, named_master};

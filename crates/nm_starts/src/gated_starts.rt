@@ -1,7 +1,7 @@
 //! The stripes of a start behind their gates, which go by the image once it is saved.
 ghost use Rattle.std.specs.Prelude.{IfOk, map};
 ghost use Rattle.nm_leg_files.specs.Files.{leg_place};
-ghost use Rattle.nm_mirror.specs.Stripes.{AreStripesOf};
+ghost use Rattle.nm_holds.specs.Stripes.{AreStripesOf};
 ghost use Rattle.nm_starts.specs.Alike.{AreAlike};
 ghost use Rattle.nm_starts.specs.ByImage.{AreOpenedBy};
 ghost use Rattle.nm_starts.specs.Kept.{GatesKnow, IsSaved};

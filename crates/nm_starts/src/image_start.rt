@@ -1,7 +1,7 @@
 //! The stripes that an image opens, of which no leg is read.
 ghost use Rattle.std.specs.Prelude.{IfOk};
 ghost use Rattle.nm_leg_files.specs.Files.{leg_place};
-ghost use Rattle.nm_mirror.specs.Stripes.{AreStripesOf};
+ghost use Rattle.nm_holds.specs.Stripes.{AreStripesOf};
 ghost use Rattle.nm_starts.specs.ByImage.{AreOpenedBy};
 
 use nm_choice::Policy;

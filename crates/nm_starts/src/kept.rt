@@ -1,6 +1,6 @@
 //! Stripes behind their gates: what the start chose is saved, and each gate is told.
 ghost use Rattle.std.specs.Prelude.{◌≡◌, ◌↔◌, IfOk, OnOk, IsTrue, map};
-ghost use Rattle.nm_mirror.specs.Stripes.{AreStripesOf};
+ghost use Rattle.nm_holds.specs.Stripes.{AreStripesOf};
 ghost use Rattle.nm_starts.specs.Kept.{GatesKnow, HasOlder, IsOlder, IsSaved};
 ghost use Rattle.nm_starts.specs.Kept.{SavesOnce, SavesTimes, absent_legs};
 

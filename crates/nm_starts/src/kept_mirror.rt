@@ -1,6 +1,6 @@
 //! The mirror over the legs' files, as it is opened: with superblocks, or without.
 ghost use Rattle.std.specs.Prelude.{◌≡◌, map, IfOk};
-ghost use Rattle.nm_mirror.specs.Stripes.{AreStripesOf};
+ghost use Rattle.nm_holds.specs.Stripes.{AreStripesOf};
 
 use crate::adding::take_added;
 use crate::changed_start::{as_they_were, changed_here};

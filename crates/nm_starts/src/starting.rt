@@ -1,8 +1,8 @@
 //! The stripes of the mirror that the settings ask for.
 ghost use Rattle.std.specs.Prelude.{◌≡◌, None, map, IfOk, IfErr};
 ghost use Rattle.nm_leg.specs.Leg.{leg_type};
-ghost use Rattle.nm_mirror.specs.Opening.{AreAllOpened};
-ghost use Rattle.nm_mirror.specs.Stripes.{AreStripesOf};
+ghost use Rattle.nm_holds.specs.Opening.{AreAllOpened};
+ghost use Rattle.nm_holds.specs.Stripes.{AreStripesOf};
 ghost use Rattle.nm_leg_files.specs.Files.{leg_place};
 ghost use Rattle.nm_starts.specs.Alike.{AreAlike};
 ghost use Rattle.nm_starts.specs.OpenedOn.{AreOpenedOn};

@@ -1,6 +1,6 @@
 -- The next end is that of the next stripe.
 use Rattle.std.proofs.Common.{◌≡◌, length, sym, ◌∙◌, rules}
-use Rattle.nm_mirror.specs.Ending.{end_behind}
+use Rattle.nm_locks.specs.Ending.{end_behind}
 use Rattle.nm_mirror.proofs.EndingLemmas.{map-more}
 use Rattle.nm_mirror.proofs.NumberLemmas.{one-in-order}
 use Rattle.nm_mirror.proofs.closing.ends_of.Goals as goal

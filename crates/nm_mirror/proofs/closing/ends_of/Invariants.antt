@@ -1,6 +1,6 @@
 -- The ends so far are their stripes', and there is room for the others.
 use Rattle.std.proofs.Common.{◌≡◌, ◌≤◌, length, map, take, vec_len, vec_capacity}
-use Rattle.nm_mirror.specs.Ending.{end_behind}
+use Rattle.nm_locks.specs.Ending.{end_behind}
 use Rattle.nm_mirror.specs.Numbers.{AreInOrder}
 use Rattle.nm_mirror.proofs.closing.ends_of.Given as goal
 

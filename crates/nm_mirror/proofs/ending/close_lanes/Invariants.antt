@@ -1,7 +1,7 @@
 -- The passes of the last lanes, so many, are taken in.
 use Rattle.std.proofs.Common.{◌≡◌, ◌++◌, List, map, vec_len}
-use Rattle.nm_mirror.specs.Ending.{past_of}
-use Rattle.nm_mirror.specs.LaneState.{LaneState}
+use Rattle.nm_locks.specs.Ending.{past_of}
+use Rattle.nm_locks.specs.LaneState.{LaneState}
 use Rattle.nm_mirror.proofs.ending.close_lanes.Given as goal
 
 abbrev pub invariant-loop-lane : goal.invariant-loop-lane

@@ -4,8 +4,9 @@ use Rattle.std.proofs.lemmas.List.{append-nil}
 use Rattle.nm_book.specs.declared.rule.Shard.{Shard}
 use Rattle.nm_history.specs.declared.transition.Noted.{Noted}
 use Rattle.nm_leg.specs.Leg.{leg_type}
-use Rattle.nm_mirror.specs.Ending.{ReplayAll, end_behind}
-use Rattle.nm_mirror.specs.declared.lock.Unlocked.{Unlocked}
+use Rattle.nm_locks.specs.Ending.{end_behind}
+use Rattle.nm_mirror.specs.Ending.{ReplayAll}
+use Rattle.nm_locks.specs.declared.lock.Unlocked.{Unlocked}
 use Rattle.nm_mirror.proofs.EndingLemmas.{all-taken, one-taken, stripe-closed}
 use Rattle.nm_mirror.proofs.ending.close_stripes.Goals as goal
 

@@ -1,8 +1,9 @@
 -- The shards of the last stripes, so many, are taken in.
 use Rattle.std.proofs.Common.{◌≡◌, ◌++◌, List, map, vec_len}
 use Rattle.nm_leg.specs.Leg.{leg_type}
-use Rattle.nm_mirror.specs.Ending.{ReplayAll, end_behind}
-use Rattle.nm_mirror.specs.declared.lock.Unlocked.{Unlocked}
+use Rattle.nm_locks.specs.Ending.{end_behind}
+use Rattle.nm_mirror.specs.Ending.{ReplayAll}
+use Rattle.nm_locks.specs.declared.lock.Unlocked.{Unlocked}
 use Rattle.nm_mirror.proofs.ending.close_stripes.Given as goal
 
 abbrev pub invariant-loop-one : goal.invariant-loop-one

@@ -3,8 +3,8 @@ use Rattle.std.proofs.Common.{rules, ◌≡◌, ◌<◌, length, subst, sym, ◌
 use mathlib.Core.List.{IsPrefix}
 use Rattle.nm_book.specs.Log.{PassView}
 use Rattle.nm_leg.specs.Leg.{leg_type}
-use Rattle.nm_mirror.specs.Hearing.{LaneHears}
-use Rattle.nm_mirror.proofs.HearingLemmas.{each-step}
+use Rattle.nm_locks.specs.Hearing.{LaneHears}
+use Rattle.nm_locks.proofs.HearingLemmas.{each-step}
 use Rattle.nm_mirror.proofs.hearing.hear_each.Goals as goal
 
 pub hear-requires : goal.hear-requires

@@ -1,7 +1,7 @@
 -- The lanes so far have heard it, the others are as they were.
 use Rattle.std.proofs.Common.{◌≡◌, drop, take}
 use Rattle.nm_leg.specs.Leg.{leg_type}
-use Rattle.nm_mirror.specs.Hearing.{EachBecomes, LaneHears}
+use Rattle.nm_locks.specs.Hearing.{EachBecomes, LaneHears}
 use Rattle.nm_mirror.proofs.hearing.hear_each.Given as goal
 
 abbrev pub invariant-loop-lane : goal.invariant-loop-lane

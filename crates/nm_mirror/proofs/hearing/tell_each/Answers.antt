@@ -3,9 +3,9 @@ use Rattle.std.proofs.Common.{◌≡◌, ◌<◌, List, get_or, length, set, ap,
 use Rattle.std.proofs.lemmas.List.{set-get_or, take_all}
 use mathlib.Core.List.{IsPrefix}
 use Rattle.nm_leg.specs.Leg.{leg_type}
-use Rattle.nm_mirror.specs.Hearing.{HaveTold}
-use Rattle.nm_mirror.specs.LaneState.{LaneState}
-use Rattle.nm_mirror.proofs.HearingLemmas.{told-step}
+use Rattle.nm_locks.specs.Hearing.{HaveTold}
+use Rattle.nm_locks.specs.LaneState.{LaneState}
+use Rattle.nm_locks.proofs.HearingLemmas.{told-step}
 use Rattle.nm_mirror.proofs.hearing.tell_each.Goals as goal
 
 pub loop-lane-preserved : goal.loop-lane-preserved

@@ -2,7 +2,7 @@
 use Rattle.std.proofs.Common.{◌≡◌, ℕ, [], ◌∷◌, ◌++◌, List, length, slice_get, Some, sym, ap, subst, arith, rules}
 use Rattle.std.proofs.lemmas.List.{length-append}
 use Rattle.nm_plans.proofs.OneMore.{one_more}
-use Rattle.nm_mirror.specs.declared.marked_opening.StripeStart.{StripeStart}
+use Rattle.nm_holds.specs.declared.marked_opening.StripeStart.{StripeStart}
 use Rattle.nm_plans.specs.Plan.{IsStartOf}
 use Rattle.nm_plans.proofs.starts.stripe_starts.Goals as goal
 

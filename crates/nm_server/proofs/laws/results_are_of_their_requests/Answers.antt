@@ -1,7 +1,7 @@
 -- The arrival of which a target heard is the one that was noted for its request.
 use Rattle.std.proofs.Common.{◌≡◌, ◌≤◌, ℕ, List, sym, subst, ◌∙◌}
 use Rattle.nm_leg.specs.Leg.{leg_type}
-use Rattle.nm_mirror.specs.Sessions.{HasCome}
+use Rattle.nm_locks.specs.Sessions.{HasCome}
 use Rattle.nm_session.specs.Outcome.{says}
 use Rattle.nm_workers.specs.Results.{called_so}
 use Rattle.nm_server.specs.Calls.{state_of}

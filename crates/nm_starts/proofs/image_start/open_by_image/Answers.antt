@@ -3,8 +3,8 @@ use Rattle.std.proofs.Common.{ℕ, Bool, List, map, ap, ◌∙◌, subst, arith}
 use Rattle.std.proofs.lemmas.Simd.{map-map}
 use Rattle.nm_geometry.specs.Geometry.{Geometry}
 use Rattle.nm_leg_files.specs.Files.{leg_place}
-use Rattle.nm_mirror.specs.Marked.{AreMarked}
-use Rattle.nm_mirror.specs.declared.marked_opening.StripeStart.{StripeStart}
+use Rattle.nm_holds.specs.Marked.{AreMarked}
+use Rattle.nm_holds.specs.declared.marked_opening.StripeStart.{StripeStart}
 use Rattle.nm_starts.proofs.image_start.open_by_image.Goals as goal
 
 pub returns-in-Ok-open_marked_stripes-clause-opened : goal.returns-in-Ok-open_marked_stripes-clause-opened

@@ -1,5 +1,5 @@
 -- The leg was out nowhere, or joins each stripe in which it is.
-use Rattle.nm_mirror.specs.Attached.{Joins, OutNowhere}
+use Rattle.nm_holds.specs.Attached.{Joins, OutNowhere}
 use Rattle.nm_mirror.proofs.mirror.Mirror.attach_leg.Goals as goal
 
 pub returns-in-Some-clause-each : goal.returns-in-Some-clause-each

@@ -1,7 +1,7 @@
 -- The leg is withdrawn from one stripe more.
 use Rattle.std.proofs.Common.{◌≡◌, ℕ, Some, true, rules, arith}
 use Rattle.nm_mirror.proofs.CountedLemmas.{up-to}
-use Rattle.nm_mirror.specs.Replacing.{IsWithdrawn}
+use Rattle.nm_holds.specs.Replacing.{IsWithdrawn}
 use Rattle.nm_mirror.proofs.mirror.Mirror.await_withdrawal.Goals as goal
 
 pub loop-stripe-init : goal.loop-stripe-init

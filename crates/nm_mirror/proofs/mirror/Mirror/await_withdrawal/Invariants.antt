@@ -1,6 +1,6 @@
 -- The leg is withdrawn from each stripe so far.
 use Rattle.std.proofs.Common.{ℕ, ◌<◌}
-use Rattle.nm_mirror.specs.Replacing.{IsWithdrawn}
+use Rattle.nm_holds.specs.Replacing.{IsWithdrawn}
 use Rattle.nm_mirror.proofs.mirror.Mirror.await_withdrawal.Given as goal
 
 abbrev pub invariant-loop-stripe : goal.invariant-loop-stripe

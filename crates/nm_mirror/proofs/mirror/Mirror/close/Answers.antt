@@ -2,7 +2,7 @@
 use Rattle.std.proofs.Common.{◌≡◌, ℕ, List, length, map, vec_len, sym, subst, ap, ◌∙◌, rules}
 use Rattle.std.proofs.lemmas.List.{length-map}
 use Rattle.nm_mirror.specs.Numbers.{AreInOrder}
-use Rattle.nm_mirror.specs.declared.lock.Lock.{Lock}
+use Rattle.nm_locks.specs.declared.lock.Lock.{Lock}
 use Rattle.nm_mirror.proofs.mirror.Mirror.close.Goals as goal
 
 pub invariant_of-mirror : goal.invariant_of-mirror

@@ -1,9 +1,9 @@
 -- One stripe more is counted.
 use Rattle.std.proofs.Common.{◌≡◌, ℕ, true, refl, subst, ◌∙◌, rules, arith}
 use Rattle.nm_leg.specs.Leg.{leg_type}
-use Rattle.nm_mirror.specs.Attached.{StaysEach, StaysIn}
-use Rattle.nm_mirror.specs.Counted.{Start, OneMore}
-use Rattle.nm_mirror.proofs.StatusLemmas.{only-none, only-on}
+use Rattle.nm_holds.specs.Attached.{StaysEach, StaysIn}
+use Rattle.nm_locks.specs.Counted.{Start, OneMore}
+use Rattle.nm_locks.proofs.StatusLemmas.{only-none, only-on}
 use Rattle.nm_mirror.proofs.mirror.Mirror.count_attached.Goals as goal
 
 pub loop-stripe-init : goal.loop-stripe-init

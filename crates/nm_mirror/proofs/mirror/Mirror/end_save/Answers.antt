@@ -1,5 +1,5 @@
 -- One stripe more is told so.
-use Rattle.nm_mirror.specs.Counted.{Start, OneMore}
+use Rattle.nm_locks.specs.Counted.{Start, OneMore}
 use Rattle.nm_mirror.proofs.mirror.Mirror.end_save.Goals as goal
 
 pub loop-stripe-init : goal.loop-stripe-init

@@ -1,7 +1,7 @@
 -- One stripe more is counted.
 use Rattle.std.proofs.Common.{◌≡◌, ℕ, refl, subst, rules, arith}
 use Rattle.nm_leg.specs.Leg.{leg_type}
-use Rattle.nm_mirror.specs.Counted.{FailsEach, Start, OneMore}
+use Rattle.nm_locks.specs.Counted.{FailsEach, Start, OneMore}
 use Rattle.nm_mirror.proofs.mirror.Mirror.fail_leg.Goals as goal
 
 pub loop-stripe-init : goal.loop-stripe-init

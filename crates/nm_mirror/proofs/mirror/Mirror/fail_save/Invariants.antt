@@ -1,7 +1,7 @@
 -- Each stripe so far was told so, and noted.
 use Rattle.nm_leg.specs.Leg.{leg_type}
-use Rattle.nm_mirror.specs.Saving.{FailsAt}
-use Rattle.nm_mirror.specs.SavesNoted.{SavesEach}
+use Rattle.nm_locks.specs.Saving.{FailsAt}
+use Rattle.nm_locks.specs.SavesNoted.{SavesEach}
 use Rattle.nm_mirror.proofs.mirror.Mirror.fail_save.Given as goal
 
 abbrev pub invariant-loop-stripe : goal.invariant-loop-stripe

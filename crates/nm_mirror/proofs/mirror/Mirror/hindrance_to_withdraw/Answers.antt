@@ -1,6 +1,6 @@
 -- One stripe more was looked at.
 use Rattle.std.proofs.Common.{◌≡◌, ◌<◌, ℕ, subst, rules, arith}
-use Rattle.nm_mirror.specs.Counted.{HaveStopped, Start, OneMore}
+use Rattle.nm_locks.specs.Counted.{HaveStopped, Start, OneMore}
 use Rattle.nm_mirror.proofs.mirror.Mirror.hindrance_to_withdraw.Goals as goal
 
 pub loop-stripe-init : goal.loop-stripe-init

@@ -1,5 +1,5 @@
 -- The spans so far have each that there was.
-use Rattle.nm_mirror.specs.Saving.{AreAmong}
+use Rattle.nm_locks.specs.Saving.{AreAmong}
 use Rattle.nm_mirror.proofs.mirror.Mirror.join_all_marks.Given as goal
 
 abbrev pub invariant-locks : goal.invariant-locks

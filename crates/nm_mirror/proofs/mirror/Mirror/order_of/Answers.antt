@@ -1,6 +1,6 @@
 -- What was taken, and noted, is the order's.
 use Rattle.nm_leg.specs.Leg.{leg_type}
-use Rattle.nm_mirror.specs.Saving.{taken_for}
+use Rattle.nm_locks.specs.Saving.{taken_for}
 use Rattle.nm_mirror.proofs.TakingNotes.{takes_same}
 use Rattle.nm_mirror.proofs.mirror.Mirror.order_of.Goals as goal
 

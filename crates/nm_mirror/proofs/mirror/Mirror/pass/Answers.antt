@@ -4,7 +4,7 @@ use Rattle.std.proofs.lemmas.Option.{slice_get_read}
 use Rattle.nm_book.specs.Log.{IsLegal}
 use Rattle.nm_leg.specs.Leg.{leg_type}
 use Rattle.nm_mirror.proofs.NumberLemmas.{number-at, one-in-order, one-more-all}
-use Rattle.nm_mirror.specs.declared.held.Held.{Held}
+use Rattle.nm_locks.specs.declared.held.Held.{Held}
 use Rattle.nm_mirror.proofs.mirror.Mirror.pass.Goals as goal
 use Rattle.nm_history.specs.Notes.{LegalNotes}
 

@@ -1,10 +1,10 @@
 -- What the lock lends is what its gate let pass, and what is opened anew.
 use Rattle.std.proofs.Common.{sym, subst, ap, ◌∙◌, rules}
-use Rattle.nm_mirror.specs.Asks.{LetsPass}
-use Rattle.nm_mirror.specs.Reopening.{Reopens}
+use Rattle.nm_locks.specs.Asks.{LetsPass}
+use Rattle.nm_locks.specs.Reopening.{Reopens}
 use Rattle.nm_rules.specs.declared.at.At.{At}
-use Rattle.nm_mirror.specs.declared.ask.Ask.TheVariants.{Answer}
-use Rattle.nm_mirror.specs.declared.held.Held.{Held}
+use Rattle.nm_locks.specs.declared.ask.Ask.TheVariants.{Answer}
+use Rattle.nm_locks.specs.declared.held.Held.{Held}
 use Rattle.nm_mirror.proofs.mirror.Mirror.reopen.Goals as goal
 
 pub reopen-requires-clause-saved : goal.reopen-requires-clause-saved

@@ -2,8 +2,8 @@
 use Rattle.std.proofs.Common.{◌≡◌, ◌++◌, ◌∷◌, [], ℕ, length, refl, sym, subst, ap, ◌∙◌, rules, arith}
 use Rattle.std.proofs.lemmas.List.{length-append, reverse-reverse}
 use Rattle.nm_leg.specs.Leg.{leg_type}
-use Rattle.nm_mirror.specs.Counted.{Start, OneMore}
-use Rattle.nm_mirror.specs.Replaced.{ReplacesEach}
+use Rattle.nm_locks.specs.Counted.{Start, OneMore}
+use Rattle.nm_holds.specs.Replaced.{ReplacesEach}
 use Rattle.nm_mirror.proofs.ReplaceLemmas.{next-part, one-done}
 use Rattle.nm_mirror.proofs.mirror.Mirror.replace_leg.Goals as goal
 

@@ -1,8 +1,8 @@
 -- Each stripe so far was counted once, and the new legs of the others are left, last first.
 use Rattle.std.proofs.Common.{◌≡◌, ◌+◌, ◌++◌, List, length, reverse, vec_len}
 use Rattle.nm_leg.specs.Leg.{leg_type}
-use Rattle.nm_mirror.specs.Counts.{replaces}
-use Rattle.nm_mirror.specs.Replaced.{ReplacesEach}
+use Rattle.nm_locks.specs.Counts.{replaces}
+use Rattle.nm_holds.specs.Replaced.{ReplacesEach}
 use Rattle.nm_mirror.proofs.mirror.Mirror.replace_leg.Given as goal
 
 abbrev pub invariant-loop-stripe : goal.invariant-loop-stripe

@@ -1,7 +1,7 @@
 -- The stripe behind the lock is the one that was asked.
 use Rattle.std.proofs.Common.{◌≡◌, ℕ, subst, rules}
 use Rattle.nm_leg.specs.Leg.{leg_type}
-use Rattle.nm_mirror.specs.Replaced.{ReplacesIn}
+use Rattle.nm_holds.specs.Replaced.{ReplacesIn}
 use Rattle.nm_mirror.proofs.mirror.Mirror.replace_part.Goals as goal
 
 pub returns-clause-counts : goal.returns-clause-counts

@@ -1,6 +1,6 @@
 -- The round goes on by one visit more.
 use Rattle.std.proofs.Common.{◌≤◌, ◌+◌, arith}
-use Rattle.nm_mirror.proofs.RoundLemmas.{goes-nowhere, goes-settled, goes-visited}
+use Rattle.nm_holds.proofs.RoundLemmas.{goes-nowhere, goes-settled, goes-visited}
 use Rattle.nm_mirror.proofs.mirror.Mirror.resync_stripe.Goals as goal
 use Rattle.nm_mirror.proofs.mirror.Mirror.resync_stripe.Goals.{in-Some, in_default}
 

@@ -1,6 +1,6 @@
 -- One step at most for each leg so far, and the round went on.
 use Rattle.std.proofs.Common.{◌≤◌}
-use Rattle.nm_mirror.specs.RoundChanges.{GoesOnTo}
+use Rattle.nm_holds.specs.RoundChanges.{GoesOnTo}
 use Rattle.nm_mirror.proofs.mirror.Mirror.resync_stripe.Given as goal
 
 abbrev pub invariant-loop-leg : goal.invariant-loop-leg

@@ -1,6 +1,6 @@
 -- The round goes on by one stripe more, of eight legs at most.
 use Rattle.std.proofs.Common.{◌≤◌, arith}
-use Rattle.nm_mirror.proofs.RoundLemmas.{goes-farther, goes-nowhere, more-steps}
+use Rattle.nm_holds.proofs.RoundLemmas.{goes-farther, goes-nowhere, more-steps}
 use Rattle.nm_mirror.proofs.mirror.Mirror.resync_turn.Goals as goal
 
 pub loop-stripe-init : goal.loop-stripe-init

@@ -1,8 +1,8 @@
 -- One stripe more is counted.
 use Rattle.std.proofs.Common.{◌≡◌, ℕ, refl, subst, rules, arith}
 use Rattle.nm_leg.specs.Leg.{leg_type}
-use Rattle.nm_mirror.specs.Attached.{AttachesEach}
-use Rattle.nm_mirror.specs.Counted.{Start, OneMore}
+use Rattle.nm_holds.specs.Attached.{AttachesEach}
+use Rattle.nm_locks.specs.Counted.{Start, OneMore}
 use Rattle.nm_mirror.proofs.mirror.Mirror.return_leg.Goals as goal
 
 pub loop-stripe-init : goal.loop-stripe-init

@@ -1,9 +1,9 @@
 -- One stripe more is told of.
 use Rattle.std.proofs.Common.{◌++◌, ◌∷◌, [], length, rules}
 use Rattle.nm_leg.specs.Leg.{leg_type}
-use Rattle.nm_mirror.specs.Status.{EachTellsAt, TellsAt}
-use Rattle.nm_mirror.specs.declared.status.StripeStatus.{StripeStatus}
-use Rattle.nm_mirror.proofs.StatusLemmas.{only-on, tells_more}
+use Rattle.nm_locks.specs.Status.{EachTellsAt, TellsAt}
+use Rattle.nm_locks.specs.declared.status.StripeStatus.{StripeStatus}
+use Rattle.nm_locks.proofs.StatusLemmas.{only-on, tells_more}
 use Rattle.nm_mirror.proofs.mirror.Mirror.status.Goals as goal
 
 pub loop-stripe-preserved : goal.loop-stripe-preserved

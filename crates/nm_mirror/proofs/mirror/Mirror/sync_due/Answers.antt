@@ -1,8 +1,8 @@
 -- Nothing that was not saved keeps the legs from being synced.
 use Rattle.std.proofs.Common.{◌≡◌, false, is_some, Option, None, Some, IfNone, sym, subst, ◌∙◌}
-use Rattle.nm_mirror.specs.Asks.{LetsPass}
-use Rattle.nm_mirror.specs.declared.ask.Ask.TheVariants as ask
-use Rattle.nm_mirror.specs.declared.held.Held.{Held}
+use Rattle.nm_locks.specs.Asks.{LetsPass}
+use Rattle.nm_locks.specs.declared.ask.Ask.TheVariants as ask
+use Rattle.nm_locks.specs.declared.held.Held.{Held}
 use Rattle.nm_mirror.proofs.mirror.Mirror.sync_due.Goals as goal
 
 none-so : {A P : Type 0} (o : Option A) → is_some o ≡ false → IfNone o P → P

@@ -1,8 +1,8 @@
 -- The stripes so far are taken and noted, and the spans have each that was wanted.
 use Rattle.std.proofs.Common.{◌≡◌, length}
 use Rattle.nm_leg.specs.Leg.{leg_type}
-use Rattle.nm_mirror.specs.Saving.{AreAmong, IsTaken}
-use Rattle.nm_mirror.specs.SavesNoted.{TakesEach}
+use Rattle.nm_locks.specs.Saving.{AreAmong, IsTaken}
+use Rattle.nm_locks.specs.SavesNoted.{TakesEach}
 use Rattle.nm_mirror.proofs.mirror.Mirror.take_all.Given as goal
 
 abbrev pub invariant-stripes : goal.invariant-stripes

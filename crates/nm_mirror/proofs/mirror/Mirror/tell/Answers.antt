@@ -1,7 +1,7 @@
 -- What is told has what was taken in of the parts.
 use Rattle.std.proofs.Common.{List, sym, subst}
-use Rattle.nm_mirror.specs.Hearing.{HaveTold}
-use Rattle.nm_mirror.specs.LaneState.{LaneState}
+use Rattle.nm_locks.specs.Hearing.{HaveTold}
+use Rattle.nm_locks.specs.LaneState.{LaneState}
 use Rattle.nm_mirror.proofs.mirror.Mirror.tell.Goals as goal
 
 pub returns-clause-told : goal.returns-clause-told

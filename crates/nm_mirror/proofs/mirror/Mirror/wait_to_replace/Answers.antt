@@ -4,7 +4,7 @@ use Rattle.std.proofs.lemmas.Option.{same_Some}
 use Rattle.std.specs.Sync.Mutex.{mutex_guard_value}
 use Rattle.nm_choice.specs.declared.leg_state.LegState.TheVariants.{Out}
 use Rattle.nm_rules.specs.State.{leg_state}
-use Rattle.nm_mirror.specs.declared.held.Held.{Held}
+use Rattle.nm_locks.specs.declared.held.Held.{Held}
 use Rattle.nm_mirror.proofs.mirror.Mirror.wait_to_replace.Goals as goal
 
 pub returns : goal.returns

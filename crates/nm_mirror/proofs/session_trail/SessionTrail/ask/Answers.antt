@@ -5,9 +5,9 @@ use Rattle.nm_book.specs.Log.{KeeperView, PassView, whats}
 use Rattle.nm_history.specs.declared.transition.Noted.{Noted}
 use Rattle.nm_history.proofs.Notes.{asked-legal}
 use Rattle.nm_leg.specs.Leg.{leg_type}
-use Rattle.nm_mirror.specs.Sessions.{Asks, HasCome, TrailState, trail_of}
+use Rattle.nm_locks.specs.Sessions.{Asks, HasCome, TrailState, trail_of}
 use Rattle.nm_mirror.proofs.SessionLemmas.{asked-has, asks-on, has-come}
-use Rattle.nm_mirror.proofs.TrailLemmas.{keeper-legal}
+use Rattle.nm_locks.proofs.TrailLemmas.{keeper-legal}
 use Rattle.nm_mirror.proofs.session_trail.SessionTrail.ask.Goals as goal
 
 pub note-noted-requires : goal.note-noted-requires

@@ -4,8 +4,8 @@ use Rattle.std.proofs.Common.{◌≡◌, sym, ap, subst, ◌∙◌}
 use Rattle.nm_book.specs.Log.{KeeperView}
 use Rattle.nm_history.specs.declared.transition.Noted.{Noted}
 use Rattle.nm_leg.specs.Leg.{leg_type}
-use Rattle.nm_mirror.specs.Sessions.{Hears, TrailState, trail_of}
-use Rattle.nm_mirror.specs.Trail.{HasHistory}
+use Rattle.nm_locks.specs.Sessions.{Hears, TrailState, trail_of}
+use Rattle.nm_locks.specs.Trail.{HasHistory}
 use Rattle.nm_mirror.proofs.SessionLemmas.{hears-on}
 use Rattle.nm_mirror.proofs.session_trail.SessionTrail.hear.Goals as goal
 

@@ -1,8 +1,8 @@
 -- Each part has heard it.
 use Rattle.std.proofs.Common.{refl, ◌∙◌}
 use Rattle.nm_leg.specs.Leg.{leg_type}
-use Rattle.nm_mirror.specs.Hearing.{LaneHears}
-use Rattle.nm_mirror.proofs.HearingLemmas.{each-long}
+use Rattle.nm_locks.specs.Hearing.{LaneHears}
+use Rattle.nm_locks.proofs.HearingLemmas.{each-long}
 use Rattle.nm_server.proofs.mirror_target.MirrorTarget.take_in.Goals as goal
 
 pub invariant_of-self : goal.invariant_of-self

@@ -1,6 +1,6 @@
 -- The parts are as they were.
 use Rattle.std.proofs.Common.{length, refl, sym, ap, subst, ◌∙◌}
-use Rattle.nm_mirror.specs.Hearing.{HaveTold}
+use Rattle.nm_locks.specs.Hearing.{HaveTold}
 use Rattle.nm_server.proofs.mirror_target.MirrorTarget.tell_seen.Goals as goal
 
 pub invariant_of-self : goal.invariant_of-self

@@ -1,0 +1,11 @@
+pub mod Attached
+pub mod CopyRound
+pub mod Marked
+pub mod MirrorFault
+pub mod Opening
+pub mod Replaced
+pub mod Replacing
+pub mod Resync
+pub mod RoundChanges
+pub mod RoundInside
+pub mod Stripes

@@ -1,0 +1,27 @@
+-- A claim passes the gate, since what it answers is saved.
+use Rattle.nm_lanes.specs.Answers.{answer_of_claim}
+use Rattle.nm_leg.specs.Leg.{leg_type}
+use Rattle.nm_locks.proofs.HeldLemmas.{held-as, refused-stays}
+use Rattle.nm_locks.proofs.NotedLemmas.{own-move}
+use Rattle.nm_locks.proofs.OneWay.{one-way}
+use Rattle.nm_locks.proofs.OwnSteps.{claim-step}
+use Rattle.nm_stripe.specs.declared.step.Step.TheVariants as step
+use Rattle.nm_locks.proofs.held.Held.claim_ended.Goals as goal
+
+pub note_own-requires : goal.note_own-requires
+note_own-requires g c =
+    let type = leg_type g.L.LegPart.model g.L.LegPart.honest in
+    let held = c.args.self.now in
+    let p = c.claim-claimed in (
+      held.gated,
+      held.leads,
+      own-move type (step.Claim c.args.ticket) (answer_of_claim p.result) held.gated p.new.self
+          (c.requires.saved c.args.ticket 0).0 tt tt
+          (claim-step type held.gated.stripe p.new.self c.args.ticket p.result p.ensures.ok p.ensures.cause p.ensures.stays),
+    )
+
+pub returns-clause-stays : goal.returns-clause-stays
+returns-clause-stays g c = refused-stays (one-way g.row.L g.L.LegPart) c.args.self.now _ c.claim-claimed.result (held-as (one-way g.row.L g.L.LegPart) _) c.claim-claimed.ensures.stays
+
+pub returns-clause-others : goal.returns-clause-others
+returns-clause-others g c = held-as (one-way g.row.L g.L.LegPart) _

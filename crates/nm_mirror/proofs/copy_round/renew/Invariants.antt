@@ -1,8 +1,0 @@
--- The first ones are changed, and the others are as they were.
-use Rattle.std.proofs.Common.{◌≡◌, ◌++◌, map, take, drop}
-use Rattle.nm_mirror.specs.RoundChanges.{renewed}
-use Rattle.nm_mirror.proofs.copy_round.renew.Given as goal
-
-abbrev pub invariant-loop-one : goal.invariant-loop-one
-invariant-loop-one l =
-    l.unread ≡ map (renewed l.stripe l.region) (take l.one-index l.fn.unread) ++ drop l.one-index l.fn.unread

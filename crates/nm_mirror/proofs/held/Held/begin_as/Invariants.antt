@@ -1,7 +1,0 @@
--- What is noted is the begin.
-use Rattle.nm_history.specs.declared.transition.Move.TheVariants.{Does}
-use Rattle.nm_lanes.specs.Answers.{answer_of_begin}
-use Rattle.nm_mirror.proofs.held.Held.begin_as.Given as goal
-
-abbrev pub ghosts-note_if : goal.ghosts-note_if
-ghosts-note_if g a = record { made = Does g.S.Plans.step (answer_of_begin a._about.now) }

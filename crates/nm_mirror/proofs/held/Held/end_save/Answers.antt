@@ -1,7 +1,0 @@
--- What is beside the gate stays as it is.
-use Rattle.nm_mirror.proofs.HeldLemmas.{held-as}
-use Rattle.nm_mirror.proofs.OneWay.{one-way}
-use Rattle.nm_mirror.proofs.held.Held.end_save.Goals as goal
-
-pub returns-clause-others : goal.returns-clause-others
-returns-clause-others g c = held-as (one-way g.row.L g.L.LegPart) _

@@ -1,6 +1,0 @@
--- Where nothing is copied nothing changes.
-use Rattle.nm_mirror.proofs.OneWay.{held_same}
-use Rattle.nm_mirror.proofs.resync.copy_to.Goals as goal
-
-pub returns-then-leg-legs-clause-others : goal.returns-then-leg-legs-clause-others
-returns-then-leg-legs-clause-others g c = held_same g.row.L g.L.LegPart _

@@ -1,9 +1,0 @@
--- Where no write is owed nothing changes.
-use Rattle.nm_mirror.proofs.OneWay.{held_same}
-use Rattle.nm_mirror.proofs.resync.push_to.Goals as goal
-
-pub returns-in_default-clause-others : goal.returns-in_default-clause-others
-returns-in_default-clause-others g c = held_same g.row.L g.L.LegPart _
-
-pub returns-in_default-2-clause-others : goal.returns-in_default-2-clause-others
-returns-in_default-2-clause-others g c = held_same g.row.L g.L.LegPart _

@@ -1,6 +1,0 @@
--- At first nothing is marked.
-use Rattle.nm_mirror.proofs.SaveLemmas.{nothing-marked}
-use Rattle.nm_mirror.proofs.save_order.map_of.Goals as goal
-
-pub spans-init : goal.spans-init
-spans-init c = nothing-marked c.args.spans.now
