@@ -3,9 +3,9 @@ import re
 
 REG = re.compile(r"%[ra]\d+\b|%\"[^\"]*\"|%[\w.]+")
 PURE = re.compile(
-    r"  (%r\d+) = (?:load|alloca|getelementptr|icmp|fcmp|zext|sext|trunc|add|sub|mul|and|or|xor|shl|lshr|ashr|udiv|sdiv|urem|srem|"
+    r"  (%r\d+) = (?:load(?! atomic| volatile)|alloca|getelementptr|icmp|fcmp|zext|sext|trunc|add|sub|mul|and|or|xor|shl|lshr|ashr|udiv|sdiv|urem|srem|"
     r"ptrtoint|ptrtoaddr|inttoptr|select|extractvalue|insertvalue|freeze|bitcast|fadd|fsub|fmul|fdiv|fneg|fpext|fptrunc|uitofp|sitofp|"
-    r"fptoui|fptosi|call (?:i\d+|\{ ?i\d+, i1 \}|float|double|zeroext i1|i1) @llvm\.(?:ctlz|cttz|ctpop|bswap|bitreverse|fshl|fshr|umul|smul|uadd|sadd|usub|ssub|fabs|fpto|is\.fpclass|abs|umin|umax|smin|smax)) ?.*\n")
+    r"fptoui|fptosi|call (?:i\d+|\{ ?i\d+, i1 \}|float|double) @llvm\.(?:ctlz|cttz|ctpop|bswap|bitreverse|fshl|fshr|umul|smul|uadd|sadd|usub|ssub|fabs|fpto|is\.fpclass|abs|umin|umax|smin|smax)) ?.*\n")
 POISON = re.compile(r"  call void @llvm\.memset\.p0\.i64\(ptr (%r\d+), i8 -86, i64 \d+, i1 false\)\n")
 CHECK = re.compile(r'  call void @"rattle-llvm-checks::\w+"\(')
 SITE = re.compile(r'  call void @"rattle-try::site-\d+"\(\)\n')
