@@ -33,11 +33,11 @@ def bare(text):
 
 
 def owner(header):
-    """The name that the functions of an impl or a trait have before their own."""
+    """The name that the functions of an impl or a trait have before their own, and whether it is of a type alone."""
     header = re.sub(r"^(pub(\([^)]*\))? )?(unsafe )?", "", header)
     at = re.match(r"trait (\w+)", header)
     if at:
-        return at[1]
+        return at[1], False
     header = header[len("impl"):]
     if header.startswith("<"):
         depth = 0
@@ -49,10 +49,17 @@ def owner(header):
                 break
     header = re.split(r"\bwhere\b|\{", header)[0]
     of = re.split(r"\bfor\b", header)
-    return bare(of[1]) + bare(of[0]) if len(of) == 2 else bare(of[0])
+    # What a trait is given as types can stand behind its name.
+    return (bare(of[1]) + bare(of[0]) + "*", False) if len(of) == 2 else (bare(of[0]), True)
 
 
-def of_file(path, module):
+def types_of(path):
+    """The types that a file defines."""
+    with open(path, encoding="utf-8") as it:
+        return re.findall(r"^(?:pub(?:\([^)]*\))? )?(?:struct|enum|union) (\w+)", it.read(), re.M)
+
+
+def of_file(path, module, homes):
     found, within, waiting, header = set(), None, set(), None
     with open(path, encoding="utf-8") as it:
         for line in it:
@@ -69,7 +76,14 @@ def of_file(path, module):
                 waiting.add(NAMES[at[1]])
             at = re.match(r"(\s*)(?:pub(?:\([^)]*\))? )?(?:const )?(?:unsafe )?(?:extern \"C\" )?fn (\w+)", line)
             if at:
-                name = f"{module}::{within}::{at[2]}" if within and at[1] else f"{module}::{at[2]}"
+                name = f"{module}::{at[2]}"
+                if within and at[1]:
+                    # A type's own functions are named by the module that defines it.
+                    home = homes.get(within[0], {module}) if within[1] else {module}
+                    if len(home) > 1 and module not in home and waiting:
+                        raise SystemExit(f"{path}: {within[0]} is a type of more than one module")
+                    home = module if module in home else min(home)
+                    name = f"{home}::{within[0]}::{at[2]}"
                 found |= {(name, hint) for hint in waiting}
                 waiting = set()
     if waiting:
@@ -78,16 +92,20 @@ def of_file(path, module):
 
 
 def of_sources(crates):
-    """The same of each function of these crates."""
+    """The same of each function of these crates. A name can have a star for what ends a word of it."""
     found = set()
     for crate in crates:
-        top = f"{crate.folder}/src"
-        for at, _, files in os.walk(top):
-            for file in files:
-                if not file.endswith(".rt"):
-                    continue
-                inner = os.path.relpath(f"{at}/{file}", top)[:-3].split("/")
-                if inner[-1] in ("lib", "main", "mod"):
-                    inner.pop()
-                found |= of_file(f"{at}/{file}", "::".join([crate.name, *inner]))
+        top, files, homes = f"{crate.folder}/src", {}, {}
+        for at, _, names in os.walk(top):
+            for name in names:
+                if name.endswith(".rt"):
+                    inner = os.path.relpath(f"{at}/{name}", top)[:-3].split("/")
+                    if inner[-1] in ("lib", "main", "mod"):
+                        inner.pop()
+                    files[f"{at}/{name}"] = "::".join([crate.name, *inner])
+        for path, module in files.items():
+            for name in types_of(path):
+                homes.setdefault(name, set()).add(module)
+        for path, module in files.items():
+            found |= of_file(path, module, homes)
     return found

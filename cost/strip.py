@@ -82,39 +82,45 @@ def without_forks(blocks, sites):
     return out
 
 
-def uses_in(line):
-    regs = re.findall(r"%r\d+\b", line)
-    at = re.match(r"  (%r\d+) = ", line)
-    return regs[1:] if at else regs
+REGISTER = re.compile(r"%r\d+\b")
+STORE = re.compile(r"  store (?!atomic|volatile).*, ptr (%r\d+), align \d+\n")
 
 
 def dead(lines):
     """Drops what has no effect and is not used, and stores into allocas that nothing else uses."""
-    lines = list(lines)
-    while True:
-        count, stored = {}, {}
-        for line in lines:
-            if line is None:
-                continue
-            for it in uses_in(line):
-                count[it] = count.get(it, 0) + 1
-        drop = set()
-        allocas = {m[1] for m in map(ALLOCA.match, lines) if m}
-        writes = {}
-        for n, line in enumerate(lines):
-            at = re.match(r"  store [^%\n]*?(?:%r\d+|%a\d+|[^%\n]*?), ptr (%r\d+), align", line)
-            if at and at[1] in allocas:
-                writes.setdefault(at[1], []).append(n)
-        for it, where in writes.items():
-            if len(where) == count.get(it, 0):
-                drop.update(where)
-        for n, line in enumerate(lines):
-            at = PURE.fullmatch(line)
-            if at and at[1] not in count:
-                drop.add(n)
-        if not drop:
-            return lines
-        lines = [line for n, line in enumerate(lines) if n not in drop]
+    uses, count, made, into = [], {}, {}, {}
+    for n, line in enumerate(lines):
+        regs = REGISTER.findall(line)
+        if " = " in line:
+            made[regs[0]] = n
+            regs = regs[1:]
+        elif line.startswith("  store "):
+            at = STORE.fullmatch(line)
+            if at:
+                into.setdefault(at[1], []).append(n)
+        uses.append(regs)
+        for it in regs:
+            count[it] = count.get(it, 0) + 1
+    gone, left = set(), list(made)
+    while left:
+        reg = left.pop()
+        n, drop = made[reg], []
+        if n not in gone and not count.get(reg) and PURE.fullmatch(lines[n]):
+            drop = [n]
+        elif reg in into and count[reg] == len(into[reg]) and ALLOCA.match(lines[n]):
+            drop = into.pop(reg)
+        for it in drop:
+            gone.add(it)
+            for used in uses[it]:
+                count[used] -= 1
+                if used in made:
+                    left.append(used)
+        for it in drop:
+            # A store that goes is none of its alloca's any more.
+            at = STORE.fullmatch(lines[it])
+            if at and it in into.get(at[1], ()):
+                into[at[1]].remove(it)
+    return [line for n, line in enumerate(lines) if n not in gone]
 
 
 def stripped(body, whole=True):
@@ -164,11 +170,14 @@ def module(lines, start, hinted):
     hints = {}
     for name, hint in hinted:
         hints.setdefault(name, set()).add(hint)
+    stars = [(re.compile(re.escape(name).replace("\\*", r"\w*")), it) for name, it in hints.items() if "*" in name]
     groups, out, met, usual, counts = {}, [], set(), None, {"functions": 0, "checks": 0, "sites": 0, "left": 0}
 
     def group(words):
         return groups.setdefault(words, f"#{900 + len(groups)}")
 
+    lines = list(lines)
+    given = {at[1]: at[2] for at in (re.fullmatch(r"attributes (#\d+) = \{ (.*) \}\n", it) for it in lines) if at}
     for it in functions_of(lines):
         if isinstance(it, str):
             if it.startswith("; Function Attrs") or it.startswith("attributes ") and "sanitize_address" in it:
@@ -182,10 +191,12 @@ def module(lines, start, hinted):
         if name == "main":
             out += [re.sub(r" #\d+ \{", f" {group(MAIN)} {{", start.split("\n", 1)[0]) + "\n", start.split("\n", 1)[1], "\n"]
             continue
-        usual = usual or at[2]
-        if at[2] != usual:
-            raise SystemExit(f"{name} has attributes of its own, {at[2]}, and not {usual}")
-        own = hints.get(base_of(name), set())
+        # What is told of a function's signature, where pointers lead to it, is for the checks.
+        words = re.sub(r' "rattle-sig"="\w+"', "", given[at[2]])
+        usual = usual or words
+        if words != usual:
+            raise SystemExit(f"{name} has attributes of its own, {words}, and not {usual}")
+        own = hints.get(base_of(name)) or next((it for key, it in stars if key.fullmatch(base_of(name))), set())
         met |= {base_of(name)} if own else set()
         counts["functions"] += 1
         counts["checks"] += sum(bool(CHECK.match(line)) for line in it)
